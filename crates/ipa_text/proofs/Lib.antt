@@ -1,0 +1,9 @@
+pub mod NumberLemmas
+pub mod FrontLemmas
+pub mod TokenLemmas
+pub mod CutLemmas
+pub mod LineLemmas
+pub mod PlaceLemmas
+pub mod EveryLineLemmas
+pub mod LineTextLemmas
+pub mod SpellingLemmas
