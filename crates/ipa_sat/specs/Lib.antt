@@ -1,0 +1,5 @@
+pub mod Formula
+pub mod Plain
+pub mod Search
+pub mod Trail
+pub mod Turns

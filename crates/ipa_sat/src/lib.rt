@@ -1,0 +1,38 @@
+//! Propositional satisfiability: which assignment of truth values makes each clause of a formula
+//! true?
+//!
+//! A formula ([`Cnf`]) is a list of clauses over the variables `0..vars`. A clause is a list of
+//! literals ([`Lit`]), each a variable or its opposite, and is true where one of its literals is.
+//! [`solve`] answers an assignment that makes each clause true, and None exactly where there is
+//! none. [`least`] answers the first such assignment in lexicographic order from variable 0, false
+//! before true. Neither claims anything of time, and want of memory is the one error.
+//!
+//! ```text
+//! let mut cnf = Cnf::new(alloc, 2);
+//! cnf.add_clause(&[Lit { var: 0, positive: true }, Lit { var: 1, positive: true }])?;
+//! cnf.add_clause(&[Lit { var: 0, positive: false }, Lit { var: 1, positive: true }])?;
+//! least(alloc, &cnf)?        // Some([false, true])
+//! ```
+//!
+//! Inside, `trail` holds the literals that are taken to be true, `look` and `visit` read one clause
+//! under them, `watches` says which clauses to look at after a step, `propagate` takes what
+//! follows, and `search` decides and turns round; `assignment` looks at a finished assignment.
+#![tactic(auto)]
+
+mod assignment;
+mod cnf;
+mod list;
+mod look;
+mod propagate;
+mod search;
+mod trail;
+mod visit;
+mod watches;
+
+pub use cnf::{Cnf, Lit};
+pub use search::{least, solve};
+
+#[cfg(test)]
+mod plain;
+#[cfg(test)]
+mod tests;
