@@ -1,0 +1,373 @@
+-- A faultless specification is fit.
+--
+--   kinds_of-faultless     no kind of fault stands in a faultless specification
+--   limits_of-faultless    no limit is passed in it
+--   IsFit-from_faultless   it is fit
+use Rattle.std.proofs.Common.{◌≡◌, ℕ, ◌<◌, ◌≤◌, Bool, true, false, ◌||◌, cond, leb, List, [], ◌∷◌, length, map, take, Option, Some, None, refl, sym, ap, ◌∙◌, subst, arith, zero, suc}
+use Rattle.std.specs.List.{list_any, slice_get, slice_index}
+use Rattle.std.specs.Option.{option_map, option_map_or}
+use Rattle.std.proofs.lemmas.Bool.{or_parts, ltb-false, leb-false}
+use Rattle.std.proofs.lemmas.Option.{slice_get-map, same_Some, get_or_from_slice_get, slice_get_within}
+use Rattle.std.proofs.lemmas.List.{length-map, length-take}
+use Rattle.ipa_spec.specs.Actions.{effects_of, needs_of, sorts_of, sorts_of_vars, place_sorts, drop_effect}
+use Rattle.ipa_spec.specs.Faults.{specification_has, names_have, predicate_has, clause_has, operation_has, bound_has, variables_have, literal_has, effect_has, bound_places_have, bound_adds, undeclared_has}
+use Rattle.ipa_spec.specs.Limits.{fault_of, first_limit, first_there, fault_if, above, faults_found, limits_passed, IsFaultless}
+use Rattle.ipa_spec.specs.Fits.{LiteralFits, EffectFits, IsFit}
+use Rattle.ipa_spec.specs.declared.faults.FaultKind.{FaultKind}
+use Rattle.ipa_spec.specs.declared.faults.FaultKind.TheVariants as kind
+use Rattle.ipa_spec.specs.FoundLaws.{list_any-false, declared, said_of, map_at, take_at, found_or}
+use Rattle.ipa_spec.specs.PartsFit.{AritiesFit, literal_fits, effect_fits, drop_effect_fits, place_sort_declared}
+use Rattle.ipa_spec.specs.declared.faults.SpecFault.{SpecFault}
+use Rattle.ipa_spec.specs.declared.faults.SpecFault.TheVariants as fault
+use Rattle.ipa_spec.specs.declared.specification.Specification.{Specification}
+use Rattle.ipa_spec.specs.declared.predicates.Predicate.{Predicate}
+use Rattle.ipa_spec.specs.declared.predicates.Var.{Var}
+use Rattle.ipa_spec.specs.declared.clauses.Clause.{Clause}
+use Rattle.ipa_spec.specs.declared.clauses.Literal.{Literal}
+use Rattle.ipa_spec.specs.declared.operations.Effect.{Effect}
+use Rattle.ipa_spec.specs.declared.operations.Operation.{Operation}
+use Rattle.ipa_spec.specs.declared.operations.Action.{Action}
+use Rattle.ipa_spec.specs.declared.operations.Action.TheVariants.{Op, Drop}
+use Rattle.ipa_spec.specs.declared.bounds.Bound.{Bound}
+
+-- where the first of a list is not there, none of them is
+none_there : (options : List (Option SpecFault)) → first_there options ≡ None →
+    (n : ℕ) (o : Option SpecFault) → slice_get options n ≡ Some o → o ≡ None
+none_there [] h n o e = cc
+none_there (None ∷ rest) h zero o e = sym (same_Some _ _ e)
+none_there (None ∷ rest) h (suc n) o e = none_there rest h n o e
+none_there (Some found ∷ rest) h n o e = cc
+
+fault_if-None : (found : Bool) (named : SpecFault) → fault_if found named ≡ None → found ≡ false
+fault_if-None false named h = refl
+fault_if-None true named h = cc
+
+-- no kind of fault stands in a faultless specification
+kinds_of-faultless : (s : Specification) → IsFaultless s → (k : FaultKind) →
+    specification_has k s ≡ false
+unfolding fault_of
+kinds_of-faultless s h kind.Arity =
+    fault_if-None _ fault.Arity (none_there (faults_found s) h.none 0 _ refl)
+kinds_of-faultless s h kind.SortMismatch =
+    fault_if-None _ fault.SortMismatch (none_there (faults_found s) h.none 1 _ refl)
+kinds_of-faultless s h kind.UnknownName =
+    fault_if-None _ fault.UnknownName (none_there (faults_found s) h.none 2 _ refl)
+kinds_of-faultless s h kind.Duplicate =
+    fault_if-None _ fault.Duplicate (none_there (faults_found s) h.none 3 _ refl)
+kinds_of-faultless s h kind.WildAdd =
+    fault_if-None _ fault.WildAdd (none_there (faults_found s) h.none 4 _ refl)
+kinds_of-faultless s h kind.FreeVariable =
+    fault_if-None _ fault.FreeVariable (none_there (faults_found s) h.none 5 _ refl)
+
+-- no limit is passed in a faultless specification
+limits_of-faultless : (s : Specification) → IsFaultless s → (n : ℕ) (o : Option SpecFault) →
+    slice_get (limits_passed s) n ≡ Some o → o ≡ None
+unfolding fault_of first_limit
+limits_of-faultless s h n o e =
+    none_there (limits_passed s) (none_there (faults_found s) h.none 6 _ refl) n o e
+
+-- what is not found is not at the head, nor in the rest
+record NotFound {X Y : Type 0} (here : Bool) (of : X → Y) (others : Option X) : Type 0 where
+  head : here ≡ false
+  rest : option_map of others ≡ None
+
+not_found : {X Y : Type 0} (here : Bool) (of : X → Y) (x : X) (others : Option X) →
+    option_map of (cond here (Some x) others) ≡ None → NotFound here of others
+not_found true of x others h = cc
+not_found false of x others h = record { head = refl; rest = h }
+
+-- no count is above the greatest allowed
+above-None : (which most : ℕ) (counts : List ℕ) → above which most counts ≡ None → (n count : ℕ) →
+    slice_get counts n ≡ Some count → count ≤ most
+above-None which most [] h n count e = cc
+above-None which most (c ∷ cs) h zero count e =
+    let same : c ≡ count = same_Some _ _ e in
+    let head = not_found _ _ c _ h in
+    subst (λ k. k ≤ most) same (ltb-false most c head.head)
+above-None which most (c ∷ cs) h (suc n) count e =
+    let head = not_found _ _ c _ h in
+    above-None which most cs head.rest n count e
+
+-- the same of what is counted of each item
+above-map : {X : Type 0} (which most : ℕ) (of : X → ℕ) (xs : List X) →
+    above which most (map of xs) ≡ None → (n : ℕ) (x : X) → slice_get xs n ≡ Some x → of x ≤ most
+above-map which most of xs h n x e =
+    above-None which most (map of xs) h n (of x) (slice_get-map of xs n ∙ ap (option_map of) e)
+
+-- the sorts of variables without a fault are declared
+sorts_declared : (s : Specification) (vars : List Var) →
+    ((k : FaultKind) → variables_have k s vars ≡ false) → (k sort : ℕ) →
+    slice_get (sorts_of_vars vars) k ≡ Some sort → sort < length s.sorts
+sorts_declared s vars h k sort e =
+    let v = map_at (λ v. v.sort) vars k sort e in
+    let below =
+    leb-false _ _
+    (list_any-false (λ v. leb (length s.sorts) v.sort) vars (h kind.UnknownName) k v.0 v.1) in
+    subst (λ n. n < length s.sorts) v.2 below
+
+-- the parts of an operation have no fault where the operation has none
+record OperationParts (s : Specification) (o : Operation) : Type 0 where
+  params : (k : FaultKind) → variables_have k s o.params ≡ false
+  needs : (k : FaultKind) →
+      list_any (literal_has k s.predicates (sorts_of_vars o.params)) o.needs ≡ false
+  effects : (k : FaultKind) →
+      list_any (effect_has k s.predicates (sorts_of_vars o.params)) o.effects ≡ false
+
+operation_parts : (s : Specification) (o : Operation) →
+    ((k : FaultKind) → operation_has k s o ≡ false) → OperationParts s o
+operation_parts s o h = record {
+  params =
+      λ k. (or_parts _ (list_any (literal_has k s.predicates (sorts_of_vars o.params)) o.needs)
+      (or_parts _ (list_any (effect_has k s.predicates (sorts_of_vars o.params)) o.effects)
+      (h k)).0).0;
+  needs = λ k.
+      (or_parts _ (list_any (literal_has k s.predicates (sorts_of_vars o.params)) o.needs)
+      (or_parts _ (list_any (effect_has k s.predicates (sorts_of_vars o.params)) o.effects)
+      (h k)).0).1;
+  effects =
+      λ k. (or_parts _ (list_any (effect_has k s.predicates (sorts_of_vars o.params)) o.effects)
+      (h k)).1;
+}
+
+-- the parts of a bound have no fault where the bound has none
+record BoundParts (s : Specification) (b : Bound) : Type 0 where
+  places : (k : FaultKind) →
+      option_map_or (bound_places_have k b) (slice_get s.predicates b.predicate)
+      (undeclared_has k) ≡ false
+  adds : (k : FaultKind) → bound_adds k b ≡ false
+  removes : (k : FaultKind) →
+      list_any (effect_has k s.predicates (place_sorts s.predicates b.predicate)) b.removes ≡ false
+
+bound_parts : (s : Specification) (b : Bound) → ((k : FaultKind) → bound_has k s b ≡ false) →
+    BoundParts s b
+bound_parts s b h = record {
+  places =
+      λ k. (or_parts _ (bound_adds k b)
+      (or_parts _
+      (list_any (effect_has k s.predicates (place_sorts s.predicates b.predicate)) b.removes)
+      (h k)).0).0;
+  adds = λ k.
+      (or_parts _ (bound_adds k b)
+      (or_parts _
+      (list_any (effect_has k s.predicates (place_sorts s.predicates b.predicate)) b.removes)
+      (h k)).0).1;
+  removes =
+      λ k. (or_parts _
+      (list_any (effect_has k s.predicates (place_sorts s.predicates b.predicate)) b.removes)
+      (h k)).1;
+}
+
+-- the parts of a specification have no fault where it has none
+record SpecificationParts (s : Specification) : Type 0 where
+  predicates : (n : ℕ) (p : Predicate) → slice_get s.predicates n ≡ Some p → (k : FaultKind) →
+      predicate_has k s p ≡ false
+  clauses : (n : ℕ) (c : Clause) → slice_get s.clauses n ≡ Some c → (k : FaultKind) →
+      clause_has k s c ≡ false
+  operations : (n : ℕ) (o : Operation) → slice_get s.operations n ≡ Some o → (k : FaultKind) →
+      operation_has k s o ≡ false
+  bounds : (n : ℕ) (b : Bound) → slice_get s.bounds n ≡ Some b → (k : FaultKind) →
+      bound_has k s b ≡ false
+
+specification_parts : (s : Specification) → ((k : FaultKind) → specification_has k s ≡ false) →
+    SpecificationParts s
+unfolding specification_has
+specification_parts s h =
+    let split4 =
+    λ (k : FaultKind). or_parts
+    (((names_have k s || list_any (predicate_has k s) s.predicates) || list_any (clause_has k s)
+    s.clauses) || list_any (operation_has k s) s.operations) (list_any (bound_has k s) s.bounds)
+    (h k) in
+    let split3 =
+    λ (k : FaultKind). or_parts
+    ((names_have k s || list_any (predicate_has k s) s.predicates) || list_any (clause_has k s)
+    s.clauses) (list_any (operation_has k s) s.operations) (split4 k).0 in
+    let split2 =
+    λ (k : FaultKind). or_parts (names_have k s || list_any (predicate_has k s) s.predicates)
+    (list_any (clause_has k s) s.clauses) (split3 k).0 in
+    let split1 =
+    λ (k : FaultKind). or_parts (names_have k s) (list_any (predicate_has k s) s.predicates)
+    (split2 k).0 in
+    record {
+      predicates = λ n p e k. list_any-false (predicate_has k s) s.predicates (split1 k).1 n p e;
+      clauses = λ n c e k. list_any-false (clause_has k s) s.clauses (split2 k).1 n c e;
+      operations = λ n o e k. list_any-false (operation_has k s) s.operations (split3 k).1 n o e;
+      bounds = λ n b e k. list_any-false (bound_has k s) s.bounds (split4 k).1 n b e;
+    }
+
+-- the predicates of a faultless specification have at most three places
+arities_fit : (s : Specification) → IsFaultless s → AritiesFit s.predicates
+arities_fit s h n p e =
+    above-map 3 3 (λ p. p.arity) s.predicates (limits_of-faultless s h 2 _ refl) n p e
+
+-- a declared bound has its predicate, and counts a place of it
+record BoundFits (s : Specification) (b : Bound) : Type 0 where
+  predicate : Predicate
+  declared : slice_get s.predicates b.predicate ≡ Some predicate
+  counted : b.counted < predicate.arity
+
+bound_fits : (s : Specification) (b : Bound) → BoundParts s b → BoundFits s b
+bound_fits s b parts =
+    let found =
+    declared (bound_places_have kind.UnknownName b) (slice_get s.predicates b.predicate)
+    (parts.places kind.UnknownName) in
+    let places =
+    said_of (bound_places_have kind.FreeVariable b) false (slice_get s.predicates b.predicate)
+    found.0 found.1 (parts.places kind.FreeVariable) in
+    record { predicate = found.0; declared = found.1; counted = leb-false _ _ places }
+
+-- the arguments of an action are at most four
+argument_count_fits : (s : Specification) → IsFaultless s → (action : Action) →
+    length (sorts_of s action) ≤ 4
+argument_count_fits s h (Op n) =
+    found_or (λ sorts. length sorts ≤ 4) (λ o. sorts_of_vars o.params) (slice_get s.operations n) []
+    (omega arith)
+    (λ o e. omega (
+      arith,
+      length-map o.params (λ v. v.sort),
+      above-map 8 4 (λ o. length o.params) s.operations
+          (limits_of-faultless s h 7 _ refl) n o e,
+    ))
+argument_count_fits s h (Drop n) =
+    found_or (λ sorts. length sorts ≤ 4) (λ b. place_sorts s.predicates b.predicate)
+    (slice_get s.bounds n) [] (omega arith)
+    (λ b e. found_or (λ sorts. length sorts ≤ 4) (λ p. take p.arity p.sorts)
+    (slice_get s.predicates b.predicate) [] (omega arith)
+    (λ p f. omega (arith, length-take p.arity p.sorts, arities_fit s h b.predicate p f)))
+
+-- the sorts of an action's arguments are declared
+argument_sort_fits : (s : Specification) → IsFaultless s → SpecificationParts s →
+    (action : Action) (k sort : ℕ) → slice_get (sorts_of s action) k ≡ Some sort →
+    sort < length s.sorts
+argument_sort_fits s h parts (Op n) k sort =
+    found_or (λ sorts. slice_get sorts k ≡ Some sort → sort < length s.sorts)
+    (λ o. sorts_of_vars o.params) (slice_get s.operations n) [] (λ e. cc)
+    (λ o e. sorts_declared s o.params (operation_parts s o (parts.operations n o e)).params k sort)
+argument_sort_fits s h parts (Drop n) k sort =
+    found_or (λ sorts. slice_get sorts k ≡ Some sort → sort < length s.sorts)
+    (λ b. place_sorts s.predicates b.predicate) (slice_get s.bounds n) [] (λ e. cc)
+    (λ b e. found_or (λ sorts. slice_get sorts k ≡ Some sort → sort < length s.sorts)
+    (λ p. take p.arity p.sorts) (slice_get s.predicates b.predicate) [] (λ e. cc)
+    (λ p f is.
+    let at = take_at p.arity p.sorts k sort is in
+    let known =
+    place_sort_declared s p (arities_fit s h b.predicate p f) (parts.predicates b.predicate p f)
+    k at.0 in
+    let same : known.0 ≡ sort = cc in
+    subst (λ n. n < length s.sorts) same known.2))
+
+-- the needs of an action fit its arguments
+needs_at : (s : Specification) (found : Option Operation) → AritiesFit s.predicates →
+    ((o : Operation) → found ≡ Some o → OperationParts s o) → (k : ℕ) (l : Literal) →
+    slice_get (option_map_or (λ o. o.needs) found []) k ≡ Some l →
+    LiteralFits s.predicates (option_map_or (λ o. sorts_of_vars o.params) found []) l
+needs_at s None short parts k l e = cc
+needs_at s (Some o) short parts k l e =
+    literal_fits s.predicates (sorts_of_vars o.params) l short
+    (λ f. list_any-false (literal_has f s.predicates (sorts_of_vars o.params)) o.needs
+    ((parts o refl).needs f) k l e)
+
+needs_fit : (s : Specification) → IsFaultless s → SpecificationParts s →
+    (action : Action) (k : ℕ) (l : Literal) → slice_get (needs_of s action) k ≡ Some l →
+    LiteralFits s.predicates (sorts_of s action) l
+needs_fit s h parts (Op n) k l e =
+    needs_at s (slice_get s.operations n) (arities_fit s h)
+    (λ o f. operation_parts s o (parts.operations n o f)) k l e
+needs_fit s h parts (Drop n) k l e = cc
+
+-- the effects of an operation fit its parameters
+operation_effects_at : (s : Specification) (found : Option Operation) → AritiesFit s.predicates →
+    ((o : Operation) → found ≡ Some o → OperationParts s o) → (k : ℕ) (e : Effect) →
+    slice_get (option_map_or (λ o. o.effects) found []) k ≡ Some e →
+    EffectFits s.predicates (option_map_or (λ o. sorts_of_vars o.params) found []) e
+operation_effects_at s None short parts k l e = cc
+operation_effects_at s (Some o) short parts k e is =
+    effect_fits s.predicates (sorts_of_vars o.params) e short
+    (λ f. list_any-false (effect_has f s.predicates (sorts_of_vars o.params)) o.effects
+    ((parts o refl).effects f) k e is)
+
+-- the effects of a drop fit its fact
+drop_effects_at : (s : Specification) (b : Bound) → AritiesFit s.predicates → SpecificationParts s →
+    BoundParts s b → (k : ℕ) (e : Effect) →
+    slice_get (drop_effect s.predicates b ∷ b.removes) k ≡ Some e →
+    EffectFits s.predicates (place_sorts s.predicates b.predicate) e
+drop_effects_at s b short parts of zero e is =
+    let fits = bound_fits s b of in
+    let p = fits.predicate in
+    subst (λ e. EffectFits s.predicates (place_sorts s.predicates b.predicate) e) (same_Some _ _ is)
+    (drop_effect_fits s b p fits.declared (short _ p fits.declared)
+    (parts.predicates _ p fits.declared))
+drop_effects_at s b short parts of (suc k) e is =
+    effect_fits s.predicates (place_sorts s.predicates b.predicate) e short
+    (λ f. list_any-false (effect_has f s.predicates (place_sorts s.predicates b.predicate))
+    b.removes (of.removes f) k e is)
+
+bound_effects_at : (s : Specification) (found : Option Bound) → AritiesFit s.predicates →
+    SpecificationParts s → ((b : Bound) → found ≡ Some b → BoundParts s b) → (k : ℕ) (e : Effect) →
+    slice_get (option_map_or (λ b. drop_effect s.predicates b ∷ b.removes) found []) k ≡ Some e →
+    EffectFits s.predicates (option_map_or (λ b. place_sorts s.predicates b.predicate) found []) e
+bound_effects_at s None short parts of k e is = cc
+bound_effects_at s (Some b) short parts of k e is =
+    drop_effects_at s b short parts (of b refl) k e is
+
+effects_fit : (s : Specification) → IsFaultless s → SpecificationParts s →
+    (action : Action) (k : ℕ) (e : Effect) → slice_get (effects_of s action) k ≡ Some e →
+    EffectFits s.predicates (sorts_of s action) e
+effects_fit s h parts (Op n) k e is =
+    operation_effects_at s (slice_get s.operations n) (arities_fit s h)
+    (λ o f. operation_parts s o (parts.operations n o f)) k e is
+effects_fit s h parts (Drop n) k e is =
+    bound_effects_at s (slice_get s.bounds n) (arities_fit s h) parts
+    (λ b f. bound_parts s b (parts.bounds n b f)) k e is
+
+-- a faultless specification is fit
+pub IsFit-from_faultless : (s : Specification) → IsFaultless s → IsFit s
+IsFit-from_faultless s h =
+    let parts = specification_parts s (kinds_of-faultless s h) in
+    let short = arities_fit s h in
+    record {
+      sort_count = above-None 1 8 (length s.sorts ∷ []) (limits_of-faultless s h 0 _ refl) 0 _ refl;
+      predicate_count =
+          above-None 2 32 (length s.predicates ∷ []) (limits_of-faultless s h 1 _ refl) 0 _ refl;
+      clause_count =
+          above-None 4 32 (length s.clauses ∷ []) (limits_of-faultless s h 3 _ refl) 0 _ refl;
+      operation_count =
+          above-None 7 32 (length s.operations ∷ []) (limits_of-faultless s h 6 _ refl) 0 _ refl;
+      bound_count =
+          above-None 11 8 (length s.bounds ∷ []) (limits_of-faultless s h 10 _ refl) 0 _ refl;
+      arities = short;
+      place_sort = λ n k p e l.
+          let known = place_sort_declared s p (short n p e) (parts.predicates n p e) k l in
+          let sort : slice_index p.sorts k ≡ known.0 =
+          get_or_from_slice_get p.sorts k known.0 0 known.1 in
+          subst (λ x. x < length s.sorts) (sym sort) known.2;
+      variable_count =
+          λ n c e. above-map 6 4 (λ c. length c.vars) s.clauses (limits_of-faultless s h 5 _ refl) n
+          c e;
+      literal_count =
+          λ n c e. above-map 5 6 (λ c. length c.literals) s.clauses
+          (limits_of-faultless s h 4 _ refl) n c e;
+      variable_sort =
+          λ n k sort c e. sorts_declared s c.vars
+          (λ f. (or_parts _
+          (list_any (literal_has f s.predicates (sorts_of_vars c.vars)) c.literals)
+          (parts.clauses n c e f)).0) k sort;
+      literals =
+          λ n k c l e is. literal_fits s.predicates (sorts_of_vars c.vars) l short
+          (λ f. list_any-false (literal_has f s.predicates (sorts_of_vars c.vars)) c.literals
+          (or_parts _ (list_any (literal_has f s.predicates (sorts_of_vars c.vars)) c.literals)
+          (parts.clauses n c e f)).1 k l is);
+      argument_count = argument_count_fits s h;
+      argument_sort = argument_sort_fits s h parts;
+      needs = needs_fit s h parts;
+      effects = effects_fit s h parts;
+      bound_predicate =
+          λ n b e. slice_get_within s.predicates b.predicate _
+          (bound_fits s b (bound_parts s b (parts.bounds n b e))).declared;
+      counted = λ n b p e is.
+          let fits = bound_fits s b (bound_parts s b (parts.bounds n b e)) in
+          let same : fits.predicate ≡ p = same_Some _ _ (sym fits.declared ∙ is) in
+          subst (λ q. b.counted < q.arity) same fits.counted;
+      drops_remove =
+          λ n k e b is at. list_any-false (λ e. e.add) b.removes
+          ((bound_parts s b (parts.bounds n b is)).adds kind.WildAdd) k e at;
+    }

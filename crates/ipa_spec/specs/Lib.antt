@@ -1,0 +1,10 @@
+pub mod Names
+pub mod Parts
+pub mod Actions
+pub mod Faults
+pub mod Limits
+pub mod Variables
+pub mod Fits
+pub mod FoundLaws
+pub mod PartsFit
+pub mod FaultlessFits
