@@ -1,0 +1,5 @@
+pub mod ValuesLemmas
+pub mod VariablesLemmas
+pub mod ClausesLemmas
+pub mod TestsLemmas
+pub mod ApplicationLemmas

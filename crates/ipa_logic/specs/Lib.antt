@@ -1,0 +1,14 @@
+pub mod Facts
+pub mod Truth
+pub mod Touches
+pub mod Groups
+pub mod DueDrops
+pub mod Conflicts
+pub mod Acceptance
+pub mod Views
+pub mod Values
+pub mod FactLaws
+pub mod FitLaws
+pub mod Renaming
+pub mod RenamingLaws
+pub mod RestrictionLaws
