@@ -1,0 +1,32 @@
+use Rattle.std.proofs.Common.{◌≡◌, ℕ, ◌<◌, List, length, Some, slice_get, get_or, arith, refl, ap, subst, ◌∙◌}
+use Rattle.std.proofs.lemmas.Option.{slice_get_read}
+use Rattle.ipa_spec.specs.FaultlessFits.{IsFit-from_faultless}
+use Rattle.ipa_spec.specs.declared.clauses.Clause.{Clause}
+use Rattle.ipa_ground.proofs.InstanceLemmas.{clause-fits, fills-clause, keeps-next, keeps-all}
+use Rattle.ipa_ground.proofs.grounding.ground_clauses_into.Goals as goal
+
+-- the clause at an index of the loop
+clause_at : (items clauses : List Clause) (k : ℕ) (c : Clause) → items ≡ clauses → k < length items → c ≡ get_or items k c → slice_get clauses k ≡ Some c
+clause_at items clauses k c e l at = subst (λ (xs : List Clause). slice_get xs k ≡ Some c) e (slice_get_read items (length items) k c refl l at)
+
+pub ground_values-requires-clause-declared : goal.ground_values-requires-clause-declared
+ground_values-requires-clause-declared c = record {
+  place = c.loop-clause.clause-index;
+  there = clause_at _ _ _ _ (c.as_slice-clause-items.ensures ∙ c.clauses.ensures.value) c.loop-clause-test.true c.clause-item.is;
+}
+
+pub ground_values-requires-clause-fits : goal.ground_values-requires-clause-fits
+ground_values-requires-clause-fits c = clause-fits c.args.spec.now c.loop-clause.clause-index c.clause-item.result c.clauses.ensures.faultless
+    (clause_at _ _ _ _ (c.as_slice-clause-items.ensures ∙ c.clauses.ensures.value) c.loop-clause-test.true c.clause-item.is)
+
+pub ground_values-requires-clause-over : goal.ground_values-requires-clause-over
+ground_values-requires-clause-over c = fills-clause c.args.spec.now c.args.universe.now.sizes c.loop-clause.clause-index c.clause-item.result c.clauses.ensures.faultless
+    (clause_at _ _ _ _ (c.as_slice-clause-items.ensures ∙ c.clauses.ensures.value) c.loop-clause-test.true c.clause-item.is)
+
+pub loop-clause-preserved : goal.loop-clause-preserved
+loop-clause-preserved c =
+    let here = clause_at _ _ _ _ (c.as_slice-clause-items.ensures ∙ c.clauses.ensures.value) c.loop-clause-test.true c.clause-item.is in
+    keeps-next _ _ _ _ _ _ _ _ here ((IsFit-from_faultless _ c.clauses.ensures.faultless).variable_count _ _ here) c.loop-clause.invariant c.in_ok-ground_values.ensures.narrows c.in_ok-ground_values.ensures.ok
+
+pub returns-clause-ok : goal.returns-clause-ok
+returns-clause-ok c = keeps-all _ _ _ _ _ _ (let same : length c.as_slice-clause-items.result.now ≡ length c.args.spec.now.clauses = ap length (c.as_slice-clause-items.ensures ∙ c.clauses.ensures.value) in omega arith) c.loop-clause.invariant

@@ -1,0 +1,5 @@
+use Rattle.ipa_ground.proofs.PatternsLemmas.{give-all}
+use Rattle.ipa_ground.proofs.patterns.Patterns.new.Goals as goal
+
+pub returns : goal.returns
+returns c = give-all c.first.result c.args.sorts.now c.first.ensures.cursor c.first.ensures.sorts c.first.ensures.classes

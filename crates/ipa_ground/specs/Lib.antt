@@ -1,0 +1,16 @@
+pub mod Patterns
+pub mod Enumeration
+pub mod ListLaws
+pub mod BranchLaws
+pub mod EnumerationLaws
+pub mod FactsLaws
+pub mod Places
+pub mod Instances
+pub mod Grounding
+pub mod GroundingSteps
+pub mod GroundingLaws
+pub mod SamePattern
+pub mod PatternLaws
+pub mod PatternValues
+pub mod Cursors
+pub mod PatternCounts
