@@ -1,0 +1,9 @@
+pub mod OrderLemmas
+pub mod WalkLemmas
+pub mod GroupLemmas
+pub mod ChoiceLemmas
+pub mod GreatestLemmas
+pub mod BoundLemmas
+pub mod NextLemmas
+pub mod AppliedLemmas
+pub mod RunLemmas

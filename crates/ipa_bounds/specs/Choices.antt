@@ -1,0 +1,54 @@
+-- The choice of the group of least key, made along a walk.
+--
+--   comes_before b f best       the key of the fact comes before that of the best so far, if there is one
+--   IsUpTo b best key           the key of the best so far does not come after this key
+--   IsOverBest b state best     the group of the best so far, if there is one, is over the bound
+--   Improves b state best f new   the best so far after one more fact
+--   IsChosen b state f          the fact is the greatest of the group of least key over the bound
+--   IsOverAt bounds state n     a group exceeds bound n
+--   IsWithinAt bounds state n   none does
+use Rattle.std.specs.Prelude.{◌≡◌, ℕ, Bool, true, false, List, slice_get, Option, Some, None}
+use Rattle.std.specs.Ordering.{nat_cmp, is_lt}
+use Rattle.std.specs.Cmp.Lexicographic.{slice_cmp}
+use Rattle.ipa_spec.specs.declared.bounds.Bound.{Bound}
+use Rattle.ipa_logic.specs.Groups.{key_of, group_of}
+use Rattle.ipa_logic.specs.DueDrops.{Exceeds, IsWithin, IsLeastOver, IsGreatest}
+use Rattle.ipa_logic.specs.declared.facts.Fact.{Fact}
+
+-- the key of the fact comes before that of the best so far, if there is one
+abbrev pub comes_before : Bound → Fact → Option Fact → Bool
+comes_before b f None = true
+comes_before b f (Some best) = is_lt (slice_cmp nat_cmp (key_of b f) (key_of b best))
+
+-- there is a best so far, and this key does not come before its key
+abbrev pub IsUpTo : Bound → Option Fact → List ℕ → Type 0
+IsUpTo b None key = ⊥
+IsUpTo b (Some best) key = is_lt (slice_cmp nat_cmp key (key_of b best)) ≡ false
+
+-- the group of the best so far, if there is one, is over the bound
+abbrev pub IsOverBest : Bound → List Fact → Option Fact → Type 0
+IsOverBest b state None = Unit {0}
+IsOverBest b state (Some best) = Exceeds b (key_of b best) state
+
+-- the best so far after one more fact
+pub record Improves (b : Bound) (state : List Fact) (best : Option Fact) (f : Fact) (new : Option Fact) : Type 0 where
+  pub over : IsOverBest b state best → IsOverBest b state new
+  pub own : Exceeds b (key_of b f) state → IsUpTo b new (key_of b f)
+  pub others : (key : List ℕ) → IsUpTo b best key → IsUpTo b new key
+
+-- the fact is the greatest of the group of least key over the bound
+pub record IsChosen (b : Bound) (state : List Fact) (f : Fact) : Type 0 where
+  pub key : List ℕ
+  pub group : IsLeastOver b key state
+  pub greatest : IsGreatest (group_of b key state) f
+
+-- a group exceeds bound n
+pub record IsOverAt (bounds : List Bound) (state : List Fact) (n : ℕ) : Type 0 where
+  pub bound : Bound
+  pub declared : slice_get bounds n ≡ Some bound
+  pub key : List ℕ
+  pub over : Exceeds bound key state
+
+-- no group exceeds bound n
+pub record IsWithinAt (bounds : List Bound) (state : List Fact) (n : ℕ) : Type 0 where
+  pub within : (b : Bound) → slice_get bounds n ≡ Some b → IsWithin b state

@@ -1,0 +1,4 @@
+pub mod Walks
+pub mod Choices
+pub mod Applied
+pub mod Runs

@@ -1,0 +1,86 @@
+//! Groups of facts that a bound counts together.
+ghost use Rattle.std.specs.Prelude.{◌≡◌, ◌↔◌, IsTrue, MatchOption};
+ghost use Rattle.ipa_logic.specs.Groups.{key_of, is_in_group};
+ghost use Rattle.ipa_logic.specs.DueDrops.{Exceeds, IsWithin, IsLeastOver};
+ghost use Rattle.ipa_bounds.specs.Choices.{comes_before, Improves};
+
+use crate::runs::{Found, least_in_order};
+use crate::walks::true_facts;
+use ipa_logic::{Fact, View};
+use ipa_spec::Bound;
+
+// The key of the fact's group: its elements in all places but the counted one, where 0 stands.
+pub(crate) fn key_of(bound: &Bound, fact: &Fact) -> [u16; 3]
+    ensures { result ≡ key_of bound.now fact.now }
+{
+    let mut key = fact.args;
+    if (bound.counted as usize) < key.len() {
+        key[bound.counted as usize] = 0;
+    }
+    key
+}
+
+// Whether the fact is in the group of this key.
+pub(crate) fn is_in_group(bound: &Bound, key: &[u16; 3], fact: &Fact) -> bool
+    ensures { result ≡ is_in_group bound.now key.now fact.now }
+{
+    fact.predicate == bound.predicate && key_of(bound, fact).cmp(key).is_eq()
+}
+
+// Whether the group of this key has more facts than the bound allows.
+fn exceeds<V: View>(view: &V, bound: &Bound, key: &[u16; 3]) -> bool
+    ensures { IsTrue result ↔ Exceeds bound.now key.now (V.facts view.now) }
+{
+    let mut count = 0;
+    for fact in true_facts(view, bound.predicate) {
+        if is_in_group(bound, key, &fact) {
+            if count == bound.most {
+                return true;
+            }
+            count += 1;
+        }
+    }
+    false
+}
+
+// A fact of the group of least key that has more facts than the bound allows, or `None` where no group has.
+pub(crate) fn least_over<V: View>(view: &V, bound: &Bound) -> Option<Fact>
+    ensures { MatchOption result (IsWithin bound.now (V.facts view.now)) (λ f. IsLeastOver bound.now (key_of bound.now f) (V.facts view.now)) }
+{
+    match least_in_order(view, bound) {
+        Found::InOrder(over) => over,
+        Found::OutOfOrder => least_by_key(view, bound),
+    }
+}
+
+// The same, in whatever order the keys come: the group of each fact whose key comes before the best so far is counted.
+fn least_by_key<V: View>(view: &V, bound: &Bound) -> Option<Fact>
+    ensures { MatchOption result (IsWithin bound.now (V.facts view.now)) (λ f. IsLeastOver bound.now (key_of bound.now f) (V.facts view.now)) }
+{
+    let mut best = None;
+    for fact in true_facts(view, bound.predicate) {
+        best = better(view, bound, best, fact);
+    }
+    best
+}
+
+// The fact, where its group is over the bound and its key comes before that of the best so far, and otherwise the best so far.
+fn better<V: View>(view: &V, bound: &Bound, best: Option<Fact>, fact: Fact) -> Option<Fact>
+    ensures { Improves bound.now (V.facts view.now) best fact result }
+{
+    if comes_before(bound, &fact, best) && exceeds(view, bound, &key_of(bound, &fact)) {
+        Some(fact)
+    } else {
+        best
+    }
+}
+
+// Whether the fact's key comes before that of the best so far, if there is one.
+fn comes_before(bound: &Bound, fact: &Fact, best: Option<Fact>) -> bool
+    ensures { result ≡ comes_before bound.now fact.now best }
+{
+    match best {
+        None => true,
+        Some(best) => key_of(bound, fact).cmp(&key_of(bound, &best)).is_lt(),
+    }
+}

@@ -1,0 +1,33 @@
+//! Bounds on the sizes of groups: whether a state is within them, and the drop that is due where it is not.
+//!
+//! A bound counts one place of a predicate. A group is the true facts of the predicate that agree in all
+//! other places, which are its key. `within` says whether no group has more facts than its bound allows.
+//! `first_drop` is the due drop: of the first bound, in declared order, that a group exceeds, the group of
+//! least key, and its greatest fact. `first_over` is the first bound that a group exceeds after an action,
+//! judged without building the state after: its facts are asked of the view and of the action's effects.
+//! The choice of the bound and the group stands apart from the choice of the fact. Nothing here takes memory.
+//!
+//! ```
+//! if let Some(drop) = first_drop(&spec, &state) {
+//!     // drop.fact is to go, by Action::Drop(drop.bound)
+//! }
+//! let refused = first_over(&spec, &state, Action::Op(0), &args);
+//! ```
+#![tactic(auto)]
+
+mod added;
+mod after;
+mod drops;
+mod greatest;
+mod groups;
+mod over;
+mod runs;
+mod walks;
+
+pub use drops::{DropOf, first_drop, within};
+pub use over::first_over;
+
+#[cfg(test)]
+mod plain;
+#[cfg(test)]
+mod tests;

@@ -1,0 +1,77 @@
+-- The order of values: by the first place where they differ, as lists are compared.
+use Rattle.std.proofs.Common.{◌≡◌, ℕ, ◌<◌, true, false, List, [], ◌∷◌, length, nat_cmp, suc, zero, refl, sym, ◌∙◌, ap, subst, arith, inl, inr}
+use Rattle.std.proofs.lemmas.Bool.{cases_Bool, false≢true}
+use Rattle.std.proofs.lemmas.Bool.Decides.{nat_tests}
+use Rattle.std.specs.Ordering.{is_lt, ordering_then, ordering_reverse}
+use Rattle.std.specs.Cmp.{tied_itself}
+use Rattle.std.specs.Cmp.Lexicographic.{slice_cmp, nat_list_cmp_total}
+use Rattle.std.specs.declared.cmp.Ordering.{Ordering}
+use Rattle.std.specs.declared.cmp.Ordering.TheVariants.{Less, Equal, Greater}
+use Rattle.std.proofs.lemmas.Map.Lookups.{exact_unsigned, exact_bytes}
+use Rattle.ipa_logic.specs.Truth.{element_of, IsEarlier}
+
+pub Less-from_lt : (r : Ordering) → is_lt r ≡ true → r ≡ Less
+Less-from_lt Less h = refl
+Less-from_lt Equal h = cc
+Less-from_lt Greater h = cc
+
+lt-from_Less : (x y : ℕ) → nat_cmp x y ≡ Less → x < y
+lt-from_Less x y h = grind (arith, nat_tests)
+
+Less-from_less : (x y : ℕ) → x < y → nat_cmp x y ≡ Less
+Less-from_less x y h = grind (arith, nat_tests)
+
+-- values that compare less are earlier
+pub earlier-from_less : (v w : List ℕ) → length v ≡ length w → slice_cmp nat_cmp v w ≡ Less → IsEarlier v w
+earlier-from_less [] [] e h = cc
+earlier-from_less [] (y ∷ ys) e h = absurd (omega arith)
+earlier-from_less (x ∷ xs) [] e h = cc
+earlier-from_less (x ∷ xs) (y ∷ ys) e h = here (nat_cmp x y) refl h (earlier-from_less xs ys (omega arith))
+  where
+    here : (r : Ordering) → nat_cmp x y ≡ r → ordering_then r (slice_cmp nat_cmp xs ys) ≡ Less → (slice_cmp nat_cmp xs ys ≡ Less → IsEarlier xs ys) → IsEarlier (x ∷ xs) (y ∷ ys)
+    here Less k h rest = record { place = 0; same = λ j l. absurd (omega arith); less = lt-from_Less x y k }
+    here Equal k h rest = let later = rest h in record { place = suc later.place; same = same later; less = later.less }
+      where
+        same : (later : IsEarlier xs ys) → (j : ℕ) → j < suc later.place → element_of (x ∷ xs) j ≡ element_of (y ∷ ys) j
+        same later zero l = exact_unsigned x y k
+        same later (suc j) l = later.same j (omega arith)
+    here Greater k h rest = cc
+
+-- and earlier values compare less
+less-at : (v w : List ℕ) (place : ℕ) → length v ≡ length w → ((j : ℕ) → j < place → element_of v j ≡ element_of w j) → element_of v place < element_of w place → slice_cmp nat_cmp v w ≡ Less
+less-at [] [] place e s l = absurd (let h : 0 < 0 = l in omega arith)
+less-at [] (y ∷ ys) place e s l = absurd (omega arith)
+less-at (x ∷ xs) [] place e s l = absurd (omega arith)
+less-at (x ∷ xs) (y ∷ ys) zero e s l = ap (λ (r : Ordering). ordering_then r (slice_cmp nat_cmp xs ys)) (Less-from_less x y l)
+less-at (x ∷ xs) (y ∷ ys) (suc place) e s l =
+    let here : x ≡ y = s 0 (omega arith) in
+    let rest = less-at xs ys place (omega arith) (λ j k. s (suc j) (omega arith)) l in
+    ap (λ (r : Ordering). ordering_then r (slice_cmp nat_cmp xs ys)) (subst (λ (z : ℕ). nat_cmp x z ≡ Equal) here (nat-itself x)) ∙ rest
+  where
+    nat-itself : (n : ℕ) → nat_cmp n n ≡ Equal
+    nat-itself n = grind (arith, nat_tests)
+
+pub less-from_earlier : (v w : List ℕ) → length v ≡ length w → IsEarlier v w → slice_cmp nat_cmp v w ≡ Less
+less-from_earlier v w e h = less-at v w h.place e h.same h.less
+
+-- values do not come before themselves
+pub lt-itself : (v : List ℕ) → is_lt (slice_cmp nat_cmp v v) ≡ false
+lt-itself v = ap is_lt (tied_itself nat_list_cmp_total v)
+
+-- what does not come before the later of two does not come before the earlier
+pub lt-through : (v r s : List ℕ) → is_lt (slice_cmp nat_cmp r s) ≡ true → is_lt (slice_cmp nat_cmp v s) ≡ false → is_lt (slice_cmp nat_cmp v r) ≡ false
+lt-through v r s l n = elim (cases_Bool (is_lt (slice_cmp nat_cmp v r))) [
+  | inl before ↦ absurd (false≢true (sym n ∙ ap is_lt (nat_list_cmp_total.trans v r s (Less-from_lt _ before) (Less-from_lt _ l))))
+  | inr not_before ↦ not_before
+]
+
+pub lt-past : (v s r : List ℕ) → is_lt (slice_cmp nat_cmp s r) ≡ false → is_lt (slice_cmp nat_cmp v s) ≡ false → is_lt (slice_cmp nat_cmp v r) ≡ false
+lt-past v s r n m = elim (cases_Bool (is_lt (slice_cmp nat_cmp v r))) [
+  | inl before ↦ here (slice_cmp nat_cmp s r) refl n before
+  | inr not_before ↦ not_before
+]
+  where
+    here : (o : Ordering) → slice_cmp nat_cmp s r ≡ o → is_lt o ≡ false → is_lt (slice_cmp nat_cmp v r) ≡ true → is_lt (slice_cmp nat_cmp v r) ≡ false
+    here Less e k l = absurd (false≢true (sym k))
+    here Equal e k l = subst (λ (x : List ℕ). is_lt (slice_cmp nat_cmp v x) ≡ false) (exact_bytes s r e) m
+    here Greater e k l = absurd (false≢true (sym m ∙ ap is_lt (nat_list_cmp_total.trans v r s (Less-from_lt _ l) (nat_list_cmp_total.antisymm r s ∙ ap ordering_reverse e))))

@@ -1,0 +1,3 @@
+pub mod Turns
+pub mod Searches
+pub mod Decided
