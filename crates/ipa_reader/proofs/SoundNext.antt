@@ -1,0 +1,121 @@
+-- What stands behind a line that is not refused is sound, where what stands before it is.
+--
+--   sound_next       so it is
+--   replica_named    a session that is not refused names one of the replicas
+use Rattle.std.proofs.Common.{◌≡◌, ◌+◌, ◌<◌, ◌≤◌, [], ◌∷◌, length, None, refl, sym, subst, ◌-◌, arith}
+use Rattle.std.proofs.lemmas.List.{length-append}
+use Rattle.ipa_reader.specs.Arrangements.{elements_of, do_said, show_said, with_request, with_arrangement}
+use Rattle.ipa_reader.specs.Standings.{next_standing}
+use Rattle.ipa_reader.specs.Refusals.{request_count, refusal_at}
+use Rattle.ipa_reader.specs.Soundness.{IsWithinElements, IsSoundStanding, NamesReplica}
+use Rattle.ipa_reader.specs.declared.document.SessionWork.{SessionWork}
+use Rattle.ipa_reader.specs.declared.forms.Form.{Form}
+use Rattle.ipa_reader.specs.declared.forms.Form.TheVariants.{Sort, Pred, Clause, Op, Need, Add, Del, Bound, Drops, Elem, Base, Replicas, Session, Do, Show}
+use Rattle.ipa_reader.specs.declared.standing.Standing.{Standing}
+use Rattle.ipa_reader.proofs.ListFacts.{length-with_last}
+use Rattle.ipa_reader.proofs.Unrefused.{Unrefused, unrefused, setup_kept, replicas_kept}
+use Rattle.ipa_reader.proofs.SoundDeclared.{sound_declared}
+use Rattle.ipa_reader.proofs.SoundArranged.{within_elements, request_count-push, request_count-last, names_replica}
+
+-- a line that arranges nothing
+unchanged : (s : Standing) (line : Form) → IsSoundStanding s → Unrefused s line → with_arrangement s.declared s.arranged line ≡ s.arranged → IsSoundStanding (next_standing s line)
+unchanged s line h u same = record {
+  declared = sound_declared s line h.declared u;
+  elements = subst (λ a. IsWithinElements a.elements) (sym same) h.elements;
+  some_replica = subst (λ a. 0 < a.replicas) (sym same) h.some_replica;
+  replicas = subst (λ a. a.replicas ≤ 8) (sym same) h.replicas;
+  sessions = subst (λ a. length a.sessions ≤ 16) (sym same) h.sessions;
+  requests = subst (λ a. request_count a.sessions ≤ 16384) (sym same) h.requests;
+}
+
+next : (s : Standing) (line : Form) → IsSoundStanding s → Unrefused s line → IsSoundStanding (next_standing s line)
+next s (Sort name) h u = unchanged s (Sort name) h u refl
+next s (Pred name sorts rule) h u = unchanged s (Pred name sorts rule) h u refl
+next s (Clause name vars literals) h u = unchanged s (Clause name vars literals) h u refl
+next s (Op name params) h u = unchanged s (Op name params) h u refl
+next s (Need literal) h u = unchanged s (Need literal) h u refl
+next s (Add predicate args) h u = unchanged s (Add predicate args) h u refl
+next s (Del predicate args) h u = unchanged s (Del predicate args) h u refl
+next s (Bound name predicate vars counted most) h u = unchanged s (Bound name predicate vars counted most) h u refl
+next s (Drops predicate args) h u = unchanged s (Drops predicate args) h u refl
+next s (Elem sort names) h u = record {
+  declared = h.declared;
+  elements = within_elements s.declared s.arranged.elements sort names h.elements (setup_kept 14 256 (length (elements_of s.declared s.arranged.elements sort) + length names) u.setup_limit);
+  some_replica = h.some_replica;
+  replicas = h.replicas;
+  sessions = h.sessions;
+  requests = h.requests;
+}
+next s (Base predicate elements) h u = record {
+  declared = h.declared;
+  elements = h.elements;
+  some_replica = h.some_replica;
+  replicas = h.replicas;
+  sessions = h.sessions;
+  requests = h.requests;
+}
+next s (Replicas number) h u =
+    let kept = replicas_kept number u.setup_limit in
+    record {
+      declared = h.declared;
+      elements = h.elements;
+      some_replica = omega (arith, kept.0);
+      replicas = kept.1;
+      sessions = h.sessions;
+      requests = h.requests;
+    }
+next s (Session number) h u =
+    let kept = setup_kept 16 16 (length s.arranged.sessions + 1) u.setup_limit in
+    let work : SessionWork = record { replica = number - 1; requests = [] } in
+    record {
+      declared = h.declared;
+      elements = h.elements;
+      some_replica = h.some_replica;
+      replicas = h.replicas;
+      sessions = omega (arith, kept, length-append s.arranged.sessions (work ∷ []));
+      requests = omega (arith, h.requests, request_count-push s.arranged.sessions work refl);
+    }
+next s (Do operation elements) h u =
+    let asked = do_said s.declared s.arranged.elements operation elements in
+    let kept = setup_kept 17 16384 (request_count s.arranged.sessions + 1) u.setup_limit in
+    record {
+      declared = h.declared;
+      elements = h.elements;
+      some_replica = h.some_replica;
+      replicas = h.replicas;
+      sessions = omega (arith, h.sessions, length-with_last (with_request asked) s.arranged.sessions);
+      requests = omega (arith, kept, request_count-last asked s.arranged.sessions);
+    }
+next s (Show predicate places) h u =
+    let asked = show_said s.declared s.arranged.elements predicate places in
+    let kept = setup_kept 17 16384 (request_count s.arranged.sessions + 1) u.setup_limit in
+    record {
+      declared = h.declared;
+      elements = h.elements;
+      some_replica = h.some_replica;
+      replicas = h.replicas;
+      sessions = omega (arith, h.sessions, length-with_last (with_request asked) s.arranged.sessions);
+      requests = omega (arith, kept, request_count-last asked s.arranged.sessions);
+    }
+
+pub sound_next : (s : Standing) (line : Form) → IsSoundStanding s → refusal_at s line ≡ None → IsSoundStanding (next_standing s line)
+sound_next s line h e = next s line h (unrefused s line e)
+
+pub replica_named : (s : Standing) (line : Form) → IsSoundStanding s → refusal_at s line ≡ None → NamesReplica line
+replica_named s (Session number) h e =
+    let named = names_replica number s.arranged.replicas (unrefused s (Session number) e).missing in
+    (named.0, omega (arith, named.1, h.replicas))
+replica_named s (Sort name) h e = tt
+replica_named s (Pred name sorts rule) h e = tt
+replica_named s (Clause name vars literals) h e = tt
+replica_named s (Op name params) h e = tt
+replica_named s (Need literal) h e = tt
+replica_named s (Add predicate args) h e = tt
+replica_named s (Del predicate args) h e = tt
+replica_named s (Bound name predicate vars counted most) h e = tt
+replica_named s (Drops predicate args) h e = tt
+replica_named s (Elem sort names) h e = tt
+replica_named s (Base predicate elements) h e = tt
+replica_named s (Replicas number) h e = tt
+replica_named s (Do operation elements) h e = tt
+replica_named s (Show predicate places) h e = tt

@@ -1,0 +1,102 @@
+-- What is known of a line that is not refused.
+--
+--   Unrefused s line     it has no flaw, passes no limit, and names what is there
+--   unrefused            so it is where there is no refusal
+--   count_kept           a limit that isn't passed
+use Rattle.std.proofs.Common.{◌≡◌, ℕ, ◌≤◌, Bool, true, false, cond, not, ◌&&◌, leb, List, [], ◌∷◌, Option, Some, None, refl, sym, zero, suc}
+use Rattle.std.specs.List.{slice_get}
+use Rattle.std.specs.Option.{option_map}
+use Rattle.std.proofs.lemmas.Bool.{ltb-false, leb-true, and_parts}
+use Rattle.std.proofs.lemmas.Option.{same_Some}
+use Rattle.ipa_spec.specs.Limits.{first_there, fault_if, size_outside}
+use Rattle.ipa_spec.specs.declared.faults.SpecFault.{SpecFault}
+use Rattle.ipa_spec.specs.declared.faults.SpecFault.TheVariants as fault
+use Rattle.ipa_reader.specs.Counts.{count_above, limits_passed}
+use Rattle.ipa_reader.specs.Refusals.{line_has, faults_at, is_missing, setup_limit_at, setup_above, replicas_outside, first_kind, kind_if, refusals_at, refusal_at}
+use Rattle.ipa_reader.specs.declared.flaws.Flaw.{Flaw}
+use Rattle.ipa_reader.specs.declared.flaws.Flaw.TheVariants.{Arity, SortMismatch, UnknownName, Duplicate, WildAdd, FreeVariable}
+use Rattle.ipa_reader.specs.declared.forms.Form.{Form}
+use Rattle.ipa_reader.specs.declared.refusals.DocKind.{DocKind}
+use Rattle.ipa_reader.specs.declared.refusals.DocKind.TheVariants as kind
+use Rattle.ipa_reader.specs.declared.standing.Standing.{Standing}
+
+pub record Unrefused (s : Standing) (line : Form) : Type 0 where
+  pub flawless : (flaw : Flaw) → line_has flaw s line ≡ false
+  pub limits : (n : ℕ) (o : Option SpecFault) → slice_get (limits_passed s.declared line) n ≡ Some o → o ≡ None
+  pub missing : is_missing s line ≡ false
+  pub setup_limit : setup_limit_at s line ≡ None
+
+none_there : (options : List (Option SpecFault)) → first_there options ≡ None → (n : ℕ) (o : Option SpecFault) → slice_get options n ≡ Some o → o ≡ None
+none_there [] h n o e = cc
+none_there (None ∷ rest) h zero o e = sym (same_Some _ _ e)
+none_there (None ∷ rest) h (suc n) o e = none_there rest h n o e
+none_there (Some found ∷ rest) h n o e = cc
+
+no_kind : (options : List (Option DocKind)) → first_kind options ≡ None → (n : ℕ) (o : Option DocKind) → slice_get options n ≡ Some o → o ≡ None
+no_kind [] h n o e = cc
+no_kind (None ∷ rest) h zero o e = sym (same_Some _ _ e)
+no_kind (None ∷ rest) h (suc n) o e = no_kind rest h n o e
+no_kind (Some found ∷ rest) h n o e = cc
+
+fault_if-None : (found : Bool) (named : SpecFault) → fault_if found named ≡ None → found ≡ false
+fault_if-None false named h = refl
+fault_if-None true named h = cc
+
+kind_if-None : (found : Bool) (named : DocKind) → kind_if found named ≡ None → found ≡ false
+kind_if-None false named h = refl
+kind_if-None true named h = cc
+
+spec-None : (found : Option SpecFault) → option_map (λ f. kind.Spec f) found ≡ None → found ≡ None
+spec-None None h = refl
+spec-None (Some f) h = cc
+
+flawless_of : (s : Standing) (line : Form) → first_there (faults_at s line) ≡ None → (flaw : Flaw) → line_has flaw s line ≡ false
+flawless_of s line h Arity = fault_if-None _ fault.Arity (none_there (faults_at s line) h 0 _ refl)
+flawless_of s line h SortMismatch = fault_if-None _ fault.SortMismatch (none_there (faults_at s line) h 1 _ refl)
+flawless_of s line h UnknownName = fault_if-None _ fault.UnknownName (none_there (faults_at s line) h 2 _ refl)
+flawless_of s line h Duplicate = fault_if-None _ fault.Duplicate (none_there (faults_at s line) h 3 _ refl)
+flawless_of s line h WildAdd = fault_if-None _ fault.WildAdd (none_there (faults_at s line) h 4 _ refl)
+flawless_of s line h FreeVariable = fault_if-None _ fault.FreeVariable (none_there (faults_at s line) h 5 _ refl)
+
+pub unrefused : (s : Standing) (line : Form) → refusal_at s line ≡ None → Unrefused s line
+unrefused s line h =
+    let spec = spec-None (first_there (faults_at s line)) (no_kind (refusals_at s line) h 0 _ refl) in
+    record {
+      flawless = flawless_of s line spec;
+      limits = none_there (limits_passed s.declared line) (none_there (faults_at s line) spec 6 _ refl);
+      missing = kind_if-None (is_missing s line) kind.UnknownElement (no_kind (refusals_at s line) h 2 _ refl);
+      setup_limit = no_kind (refusals_at s line) h 3 _ refl;
+    }
+
+-- what is not found is not there
+unfound : (test : Bool) (named : ℕ → SpecFault) (count : ℕ) → option_map named (cond test (Some count) None) ≡ None → test ≡ false
+unfound false named count h = refl
+unfound true named count h = cc
+
+pub count_kept : (which most count : ℕ) → count_above which most count ≡ None → count ≤ most
+count_kept which most count h = ltb-false most count (unfound _ (λ found. fault.Limit which found) count h)
+
+not_not : (b : Bool) → not b ≡ false → b ≡ true
+not_not true h = refl
+not_not false h = cc
+
+pub size_kept : (size : ℕ) → size_outside (size ∷ []) ≡ None → (1 ≤ size) × (size ≤ 65535)
+size_kept size h =
+    let inside = and_parts (leb 1 size) (leb size 65535) (not_not (leb 1 size && leb size 65535) (unfound _ (λ found. fault.Limit 12 found) size h)) in
+    (leb-true 1 size inside.0, leb-true size 65535 inside.1)
+
+setup_unfound : (test : Bool) (named : DocKind) → cond test (Some named) None ≡ None → test ≡ false
+setup_unfound false named h = refl
+setup_unfound true named h = cc
+
+pub setup_kept : (which most count : ℕ) → setup_above which most count ≡ None → count ≤ most
+setup_kept which most count h = ltb-false most count (setup_unfound _ (kind.SetupLimit which count) h)
+
+replicas_found : (test : Bool) (named : DocKind) → cond test None (Some named) ≡ None → test ≡ true
+replicas_found true named h = refl
+replicas_found false named h = cc
+
+pub replicas_kept : (number : ℕ) → replicas_outside number ≡ None → (1 ≤ number) × (number ≤ 8)
+replicas_kept number h =
+    let inside = and_parts (leb 1 number) (leb number 8) (replicas_found (leb 1 number && leb number 8) (kind.SetupLimit 15 number) h) in
+    (leb-true 1 number inside.0, leb-true number 8 inside.1)

@@ -1,0 +1,435 @@
+//! What is said with one more setup line, by numbers.
+ghost use Rattle.std.specs.Prelude.{◌≡◌, ◌-◌, ◌<◌, ◌≤◌, ◌++◌, List, [], ◌∷◌, IfOk, IfSome, length, map, slice_index_or};
+ghost use Rattle.std.specs.List.{zip};
+ghost use Rattle.ipa_reader.specs.Naming.{number_in, with_last};
+ghost use Rattle.ipa_reader.specs.Arrangements.{element_number, element_numbers, three, four, predicate_number, operation_number, fact_said, do_said, wanted_number, three_wanted, show_said, with_request, with_more, with_elements, nothing_arranged, with_arrangement};
+ghost use Rattle.ipa_spec.specs.declared.names.Name.{Name};
+ghost use Rattle.ipa_reader.specs.Soundness.{IsWithinElements, NamesReplica};
+
+use crate::declared::Declared;
+use crate::declaring::ending_with;
+use crate::document::SessionWork;
+use crate::elements::{elements_of, parameter_sorts};
+use crate::forms::Form;
+use crate::naming::{number_in, number_or_count, same_name};
+use crate::scopes::places_of;
+use crate::standing::Arranged;
+use ipa_logic::{Fact, Request};
+use ipa_spec::{List, Name};
+use std::alloc::{AllocError, Global};
+
+/// What no line says.
+pub(crate) fn nothing_arranged(alloc: Global) -> Arranged
+    ensures { result ≡ nothing_arranged }
+{
+    Arranged {
+        elements: List::new(alloc),
+        facts: List::new(alloc),
+        replicas: 1,
+        sessions: List::new(alloc),
+    }
+}
+
+/// The number of an element in the sort of its place.
+fn element_number(declared: &Declared, elements: &List<List<Name>>, sort: &Name, name: &Name) -> u16
+    requires { IsWithinElements elements.now }
+    ensures { result ≡ element_number declared.now elements.now sort.now name.now }
+{
+    number_or_count(elements_of(declared, elements, sort), name) as u16
+}
+
+/// The numbers of elements in the places of these sorts.
+fn element_numbers(
+    alloc: Global,
+    declared: &Declared,
+    elements: &List<List<Name>>,
+    sorts: &[Name],
+    names: &[Name],
+) -> Result<Vec<u16>, AllocError>
+    requires { IsWithinElements elements.now }
+    ensures { IfOk result (λ numbers. numbers.items ≡ element_numbers declared.now elements.now sorts.now names.now) }
+{
+    names
+        .iter()
+        .zip(sorts.iter())
+        .map(|(name, sort)| element_number(declared, elements, sort, name))
+        .collect(alloc)
+}
+
+/// The number in a place, and 0 past the end.
+fn number_at(numbers: &[u16], place: usize) -> u16
+    ensures { result ≡ slice_index_or numbers.now place 0 }
+{
+    match numbers.get(place) {
+        Some(number) => *number,
+        None => 0,
+    }
+}
+
+/// The first three numbers.
+fn three(numbers: &[u16]) -> [u16; 3]
+    ensures { result ≡ three numbers.now }
+{
+    [
+        number_at(numbers, 0),
+        number_at(numbers, 1),
+        number_at(numbers, 2),
+    ]
+}
+
+/// The first four numbers.
+fn four(numbers: &[u16]) -> [u16; 4]
+    ensures { result ≡ four numbers.now }
+{
+    [
+        number_at(numbers, 0),
+        number_at(numbers, 1),
+        number_at(numbers, 2),
+        number_at(numbers, 3),
+    ]
+}
+
+/// The place of a predicate among the declared ones.
+fn predicate_place(declared: &Declared, name: &Name) -> Option<usize>
+    ensures value { result ≡ number_in (map (λ p. p.name) declared.now.predicates) name.now }
+    ensures within { IfSome result (λ place. place < length declared.now.predicates) }
+{
+    declared
+        .predicates
+        .as_slice()
+        .iter()
+        .map(|predicate| predicate.name)
+        .position(|other| same_name(&other, name))
+}
+
+/// The number of a predicate.
+pub(crate) fn predicate_number(declared: &Declared, name: &Name) -> u8
+    requires { length declared.now.predicates ≤ 32 }
+    ensures { result ≡ predicate_number declared.now name.now }
+{
+    match predicate_place(declared, name) {
+        Some(place) => place as u8,
+        None => declared.predicates.len() as u8,
+    }
+}
+
+/// The place of an operation among the declared ones.
+fn operation_place(declared: &Declared, name: &Name) -> Option<usize>
+    ensures value { result ≡ number_in (map (λ o. o.name) declared.now.operations) name.now }
+    ensures within { IfSome result (λ place. place < length declared.now.operations) }
+{
+    declared
+        .operations
+        .as_slice()
+        .iter()
+        .map(|operation| operation.name)
+        .position(|other| same_name(&other, name))
+}
+
+/// The number of an operation.
+fn operation_number(declared: &Declared, name: &Name) -> u8
+    requires { length declared.now.operations ≤ 32 }
+    ensures { result ≡ operation_number declared.now name.now }
+{
+    match operation_place(declared, name) {
+        Some(place) => place as u8,
+        None => declared.operations.len() as u8,
+    }
+}
+
+/// The fact that a `base` line gives.
+fn fact_said(
+    alloc: Global,
+    declared: &Declared,
+    elements: &List<List<Name>>,
+    predicate: &Name,
+    names: &[Name],
+) -> Result<Fact, AllocError>
+    requires predicates { length declared.now.predicates ≤ 32 }
+    requires elements { IsWithinElements elements.now }
+    ensures { IfOk result (λ fact. fact ≡ fact_said declared.now elements.now predicate.now names.now) }
+{
+    let numbers = element_numbers(
+        alloc,
+        declared,
+        elements,
+        places_of(declared, predicate),
+        names,
+    )?;
+    Ok(Fact {
+        predicate: predicate_number(declared, predicate),
+        args: three(&numbers),
+    })
+}
+
+/// The request of a `do` line.
+fn do_said(
+    alloc: Global,
+    declared: &Declared,
+    elements: &List<List<Name>>,
+    operation: &Name,
+    names: &[Name],
+) -> Result<Request, AllocError>
+    requires operations { length declared.now.operations ≤ 32 }
+    requires elements { IsWithinElements elements.now }
+    ensures { IfOk result (λ asked. asked ≡ do_said declared.now elements.now operation.now names.now) }
+{
+    let sorts = parameter_sorts(alloc, declared, operation)?;
+    let numbers = element_numbers(alloc, declared, elements, &sorts, names)?;
+    Ok(Request::Do {
+        op: operation_number(declared, operation),
+        args: four(&numbers),
+    })
+}
+
+/// The number of the element wanted in a place, and none for `*`.
+fn wanted_number(
+    declared: &Declared,
+    elements: &List<List<Name>>,
+    wanted: &Option<Name>,
+    sort: &Name,
+) -> Option<u16>
+    requires { IsWithinElements elements.now }
+    ensures { result ≡ wanted_number declared.now elements.now (wanted.now, sort.now) }
+{
+    match wanted {
+        Some(name) => Some(element_number(declared, elements, sort, name)),
+        None => None,
+    }
+}
+
+/// The numbers of the elements wanted in the places of these sorts.
+fn wanted_numbers(
+    alloc: Global,
+    declared: &Declared,
+    elements: &List<List<Name>>,
+    sorts: &[Name],
+    places: &[Option<Name>],
+) -> Result<Vec<Option<u16>>, AllocError>
+    requires { IsWithinElements elements.now }
+    ensures { IfOk result (λ numbers. numbers.items ≡ map (wanted_number declared.now elements.now) (zip places.now sorts.now)) }
+{
+    places
+        .iter()
+        .zip(sorts.iter())
+        .map(|(wanted, sort)| wanted_number(declared, elements, wanted, sort))
+        .collect(alloc)
+}
+
+/// What is wanted in a place, and nothing past the end.
+fn wanted_at(numbers: &[Option<u16>], place: usize) -> Option<u16>
+    ensures { result ≡ slice_index_or numbers.now place None }
+{
+    match numbers.get(place) {
+        Some(number) => *number,
+        None => None,
+    }
+}
+
+/// The request of a `show` line.
+fn show_said(
+    alloc: Global,
+    declared: &Declared,
+    elements: &List<List<Name>>,
+    predicate: &Name,
+    places: &[Option<Name>],
+) -> Result<Request, AllocError>
+    requires predicates { length declared.now.predicates ≤ 32 }
+    requires elements { IsWithinElements elements.now }
+    ensures { IfOk result (λ asked. asked ≡ show_said declared.now elements.now predicate.now places.now) }
+{
+    let numbers = wanted_numbers(
+        alloc,
+        declared,
+        elements,
+        places_of(declared, predicate),
+        places,
+    )?;
+    Ok(Request::Show {
+        predicate: predicate_number(declared, predicate),
+        places: [
+            wanted_at(&numbers, 0),
+            wanted_at(&numbers, 1),
+            wanted_at(&numbers, 2),
+        ],
+    })
+}
+
+/// A session with one more request.
+fn session_with_request(mut work: SessionWork, asked: Request) -> Result<SessionWork, AllocError>
+    ensures { IfOk result (λ now. now ≡ with_request asked work) }
+{
+    work.requests.push(asked)?;
+    Ok(work)
+}
+
+/// One more request of the session declared last.
+fn with_request(
+    sessions: List<SessionWork>,
+    asked: Request,
+) -> Result<List<SessionWork>, AllocError>
+    ensures { IfOk result (λ now. now ≡ with_last (with_request asked) sessions) }
+{
+    let mut items = sessions.into_vec();
+    match items.pop() {
+        Some(last) => {
+            let grown = session_with_request(last, asked)?;
+            let all = ending_with(items, grown)?;
+            Ok(all)
+        }
+        None => Ok(List::from_vec(items)),
+    }
+}
+
+/// Empty lists behind the others, until a list of this number stands.
+fn padded(
+    alloc: Global,
+    mut lists: Vec<List<Name>>,
+    number: usize,
+) -> Result<Vec<List<Name>>, AllocError>
+    ensures within { IfOk result (λ all. number < length all.items) }
+    ensures more { (names : List Name) → IfOk result (λ all. with_more number names all.items ≡ with_more number names lists.items) }
+{
+    'padding: while lists.len() <= number {
+        lists.push(List::new(alloc))?;
+    }
+    Ok(lists)
+}
+
+/// A list of names with others behind it.
+fn extended(own: List<Name>, names: &[Name]) -> Result<List<Name>, AllocError>
+    ensures { IfOk result (λ all. all ≡ own ++ names.now) }
+{
+    let mut all = own.into_vec();
+    all.extend_from_slice(names)?;
+    Ok(List::from_vec(all))
+}
+
+/// More names in the list of a number.
+fn with_more(
+    alloc: Global,
+    elements: List<List<Name>>,
+    number: usize,
+    names: &[Name],
+) -> Result<List<List<Name>>, AllocError>
+    ensures { IfOk result (λ now. now ≡ with_more number names.now elements) }
+{
+    let mut lists = padded(alloc, elements.into_vec(), number)?;
+    let own = lists.remove(number);
+    let grown = extended(own, names)?;
+    lists.insert(number, grown)?;
+    Ok(List::from_vec(lists))
+}
+
+/// More elements of a sort.
+fn with_elements(
+    alloc: Global,
+    declared: &Declared,
+    elements: List<List<Name>>,
+    sort: &Name,
+    names: &[Name],
+) -> Result<List<List<Name>>, AllocError>
+    ensures { IfOk result (λ now. now ≡ with_elements declared.now elements sort.now names.now) }
+{
+    match number_in(declared.sorts.as_slice(), sort) {
+        Some(number) => with_more(alloc, elements, number, names),
+        None => Ok(elements),
+    }
+}
+
+/// One more fact of the base.
+fn with_fact(mut arranged: Arranged, fact: Fact) -> Result<Arranged, AllocError>
+    ensures { IfOk result (λ now. now ≡ record arranged { facts = arranged.facts ++ fact ∷ [] }) }
+{
+    arranged.facts.push(fact)?;
+    Ok(arranged)
+}
+
+/// One more session, at this replica, counted from 1.
+fn with_session(alloc: Global, mut arranged: Arranged, number: u32) -> Result<Arranged, AllocError>
+    requires some { 0 < number }
+    requires within { number ≤ 8 }
+    ensures { IfOk result (λ now. now ≡ record arranged { sessions = arranged.sessions ++ record { replica = number - 1; requests = [] } ∷ [] }) }
+{
+    let replica = (number - 1) as u8;
+    arranged.sessions.push(SessionWork {
+        replica,
+        requests: List::new(alloc),
+    })?;
+    Ok(arranged)
+}
+
+/// What is said with this line behind the others.
+pub(crate) fn with_arrangement(
+    alloc: Global,
+    declared: &Declared,
+    arranged: Arranged,
+    line: &Form,
+) -> Result<Arranged, AllocError>
+    requires predicates { length declared.now.predicates ≤ 32 }
+    requires operations { length declared.now.operations ≤ 32 }
+    requires elements { IsWithinElements arranged.elements }
+    requires replica { NamesReplica line.now }
+    ensures { IfOk result (λ now. now ≡ with_arrangement declared.now arranged line.now) }
+{
+    match line {
+        Form::Elem { sort, elements } => Ok(Arranged {
+            elements: with_elements(
+                alloc,
+                declared,
+                arranged.elements,
+                sort,
+                elements.as_slice(),
+            )?,
+            ..arranged
+        }),
+        Form::Base {
+            predicate,
+            elements,
+        } => {
+            let fact = fact_said(
+                alloc,
+                declared,
+                &arranged.elements,
+                predicate,
+                elements.as_slice(),
+            )?;
+            with_fact(arranged, fact)
+        }
+        Form::Replicas { number } => Ok(Arranged {
+            replicas: *number,
+            ..arranged
+        }),
+        Form::Session { number } => with_session(alloc, arranged, *number),
+        Form::Do {
+            operation,
+            elements,
+        } => {
+            let asked = do_said(
+                alloc,
+                declared,
+                &arranged.elements,
+                operation,
+                elements.as_slice(),
+            )?;
+            Ok(Arranged {
+                sessions: with_request(arranged.sessions, asked)?,
+                ..arranged
+            })
+        }
+        Form::Show { predicate, places } => {
+            let asked = show_said(
+                alloc,
+                declared,
+                &arranged.elements,
+                predicate,
+                places.as_slice(),
+            )?;
+            Ok(Arranged {
+                sessions: with_request(arranged.sessions, asked)?,
+                ..arranged
+            })
+        }
+        _ => Ok(arranged),
+    }
+}
