@@ -1,8 +1,9 @@
 //! Worked rows: patterns and their numbers, the numbers of facts, and grounded clauses.
-ghost use Rattle.std.specs.Prelude.{◌≡◌, ◌<◌, ◌≤◌, length, All, IfOk};
+ghost use Rattle.std.specs.Prelude.{◌≡◌, ◌<◌, ◌≤◌, length, All, IfOk, IsTrue};
+ghost use Rattle.ipa_logic.specs.Facts.{IsFact};
 
-use crate::{Patterns, fact_count, ground_clauses, ground_clauses_into};
-use ipa_logic::Universe;
+use crate::{Patterns, fact_count, fact_number, ground_clauses, ground_clauses_into};
+use ipa_logic::{Fact, Universe, size_of};
 use ipa_sat::{Cnf, Lit, least, solve};
 use ipa_spec::{Atom, Clause, List, Literal, Name, Predicate, Rule, Spec, Var};
 use std::alloc::{AllocError, Global};
@@ -214,5 +215,36 @@ fn grounds_behind_other_variables(rt: HostRuntime) -> Result<(), Fail> {
     assert_eq!(rt; least(rt.alloc(), &cnf)?, Some(first));
     ask(&mut cnf, 2)?;
     assert!(rt; solve(rt.alloc(), &cnf)?.is_none());
+    Ok(())
+}
+
+/// Whether the predicate has one place, and these are arguments for it over the universe.
+fn is_fact_of_one(spec: &Spec, universe: &Universe, predicate: u8, args: &[u16; 3]) -> bool
+    ensures { IsTrue result → IsFact spec.now.predicates universe.now.sizes (record { predicate = predicate; args = args.now }) }
+{
+    let Some(declared) = spec.predicates().get(predicate as usize) else {
+        return false;
+    };
+    if declared.arity != 1 || args[1] != 0 || args[2] != 0 {
+        return false;
+    }
+    args[0] < size_of(universe, declared.sorts[0])
+}
+
+/// The facts over two cups are numbered by predicate, and then by cup.
+#[test]
+fn numbers_facts_by_their_order(rt: HostRuntime) -> Result<(), Fail> {
+    let spec = cups(rt.alloc())?;
+    let universe = Universe {
+        sizes: [2, 0, 0, 0, 0, 0, 0, 0],
+    };
+    for (predicate, cup, number) in [(0, 0, 0), (0, 1, 1), (1, 0, 2), (1, 1, 3)] {
+        let args = [cup, 0, 0];
+        assert!(rt; is_fact_of_one(&spec, &universe, predicate, &args));
+        assert_eq!(rt;
+            fact_number(&spec, &universe, &Fact { predicate, args }),
+            number
+        );
+    }
     Ok(())
 }
