@@ -3,3 +3,4 @@ pub mod VariablesLemmas
 pub mod ClausesLemmas
 pub mod TestsLemmas
 pub mod ApplicationLemmas
+pub mod RangeLemmas

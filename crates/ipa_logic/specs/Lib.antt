@@ -6,6 +6,7 @@ pub mod DueDrops
 pub mod Conflicts
 pub mod Acceptance
 pub mod Views
+pub mod Ranges
 pub mod Values
 pub mod FactLaws
 pub mod FitLaws

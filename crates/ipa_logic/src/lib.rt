@@ -20,6 +20,7 @@ mod effects;
 mod facts;
 mod keeping;
 mod literals;
+mod ranges;
 mod state;
 mod view;
 

@@ -5,9 +5,11 @@ ghost use Rattle.ipa_logic.specs.Facts.{has, fact_cmp, IsRising};
 ghost use Rattle.ipa_logic.specs.Views.{next_fact, is_above};
 
 use crate::facts::Fact;
+use crate::ranges::{end_of, start_of};
 use crate::view::View;
 use std::alloc::{AllocError, Global};
 use std::collections::BTreeSet;
+use std::collections::btree_set::Range;
 use std::marker::Model;
 
 /// A state, seen as the list of its true facts in order.
@@ -82,8 +84,20 @@ impl View for State {
     }
 
     fn next_true(&self, predicate: u8, after: Option<Fact>) -> Option<Fact> {
-        self.facts.iter().copied().find(|fact| fact.predicate == predicate && is_above(after, fact))
+        first_above(
+            self.facts
+                .range((start_of(predicate, after), end_of(predicate))),
+            predicate,
+            after,
+        )
     }
+}
+
+// The first of these facts that is of the predicate and above `after`.
+fn first_above(facts: Range<'_, Fact>, predicate: u8, after: Option<Fact>) -> Option<Fact>
+    ensures { result ≡ next_fact facts.entry predicate after }
+{
+    facts.copied().find(|fact| fact.predicate == predicate && is_above(after, fact))
 }
 
 fn is_above(after: Option<Fact>, fact: &Fact) -> bool

@@ -40,7 +40,9 @@ fn next_true_goes_through_one_predicate(rt: HostRuntime) -> Result<(), Fail> {
         (0, None, Some(known(0))),
         (0, Some(known(0)), Some(known(2))),
         (0, Some(known(2)), None),
+        (0, Some(enrolled(1, 0)), None),
         (1, None, Some(enrolled(1, 0))),
+        (1, Some(known(2)), Some(enrolled(1, 0))),
         (2, None, None),
     ] {
         assert!(rt;
