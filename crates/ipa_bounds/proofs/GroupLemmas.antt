@@ -1,9 +1,14 @@
 -- Groups, counted along a walk.
-use Rattle.std.proofs.Common.{◌≡◌, ℕ, ◌+◌, Bool, true, false, cond, ◌&&◌, ◌==◌, List, [], ◌∷◌, length, filter, None, refl, sym, ◌∙◌, ap, arith}
+use Rattle.std.proofs.Common.{◌≡◌, ℕ, ◌+◌, Bool, true, false, cond, ◌&&◌, ◌==◌, List, [], ◌∷◌, length, filter, Option, Some, None, refl, sym, ◌∙◌, ap, arith}
+use Rattle.std.proofs.lemmas.List.Kept.{IsStrictlySortedBy-filter}
 use Rattle.ipa_spec.specs.declared.bounds.Bound.{Bound}
+use Rattle.ipa_logic.specs.Facts.{fact_cmp, IsRising}
+use Rattle.ipa_logic.specs.Views.{next_fact}
 use Rattle.ipa_logic.specs.Groups.{is_in_group, group_of}
 use Rattle.ipa_logic.specs.declared.facts.Fact.{Fact}
+use Rattle.ipa_bounds.specs.Applied.{is_left}
 use Rattle.ipa_bounds.specs.Walks.{facts_after}
+use Rattle.ipa_bounds.proofs.WalkLemmas.{walk-some, filter-find_none}
 
 -- a filter behind a weaker one
 pub filter-filter : (q r : Fact → Bool) → ((f : Fact) → q f ≡ true → r f ≡ true) → (s : List Fact) → filter q (filter r s) ≡ filter q s
@@ -24,14 +29,27 @@ of-predicate false b h = h
 pub group-walk : (b : Bound) (key : List ℕ) (s : List Fact) → filter (is_in_group b key) (facts_after s b.predicate None) ≡ group_of b key s
 group-walk b key s = filter-filter (is_in_group b key) (λ f. (f.predicate == b.predicate) && true) (λ f h. of-predicate (f.predicate == b.predicate) _ h) s
 
--- one more fact of the walk is counted, or it is not
-pub counted-in : (q : Fact → Bool) (all n : ℕ) (f : Fact) (left rest : List Fact) → left ≡ f ∷ rest → q f ≡ true → all ≡ n + length (filter q left) → all ≡ (n + 1) + length (filter q rest)
-counted-in q all n f left rest e h a =
-    let here : length (filter q left) ≡ 1 + length (filter q rest) = ap (λ (t : List Fact). length (filter q t)) e ∙ ap (λ (b : Bool). length (cond b (f ∷ filter q rest) (filter q rest))) h ∙ omega arith in
-    omega arith
+-- a stronger filter behind leaves all
+filter-behind : (q r : Fact → Bool) → ((f : Fact) → q f ≡ true → r f ≡ true) → (s : List Fact) → filter r (filter q s) ≡ filter q s
+filter-behind q r h [] = refl
+filter-behind q r h (x ∷ xs) = here (q x) refl (filter-behind q r h xs)
+  where
+    here : (a : Bool) → q x ≡ a → filter r (filter q xs) ≡ filter q xs → filter r (cond a (x ∷ filter q xs) (filter q xs)) ≡ cond a (x ∷ filter q xs) (filter q xs)
+    here true e rest = ap (λ (c : Bool). cond c (x ∷ filter r (filter q xs)) (filter r (filter q xs))) (h x e) ∙ ap (λ (t : List Fact). x ∷ t) rest
+    here false e rest = rest
 
-pub counted-out : (q : Fact → Bool) (all n : ℕ) (f : Fact) (left rest : List Fact) → left ≡ f ∷ rest → q f ≡ false → all ≡ n + length (filter q left) → all ≡ n + length (filter q rest)
-counted-out q all n f left rest e h a = a ∙ ap (λ (m : ℕ). n + m) (ap (λ (t : List Fact). length (filter q t)) e ∙ ap (λ (b : Bool). length (cond b (f ∷ filter q rest) (filter q rest))) h)
+module _ (b : Bound) (key : List ℕ) (s : List Fact) where
+  -- before the first all facts of the group are left
+  pub group-counted : length (group_of b key s) ≡ 0 + length (facts_after (group_of b key s) b.predicate None)
+  group-counted =
+      let whole : length (facts_after (group_of b key s) b.predicate None) ≡ length (group_of b key s) = ap length (filter-behind (is_in_group b key) (is_left b.predicate None) (λ f h. of-predicate (f.predicate == b.predicate) _ h) s) in
+      omega arith
 
-pub counted-all : (q : Fact → Bool) (all n : ℕ) (left : List Fact) → left ≡ [] → all ≡ n + length (filter q left) → all ≡ n
-counted-all q all n left e a = let none : length (filter q left) ≡ 0 = ap (λ (t : List Fact). length (filter q t)) e in omega arith
+  -- each next one is one of those left
+  pub member-counted : (last : Option Fact) (f : Fact) → IsRising s → Some f ≡ next_fact (group_of b key s) b.predicate last
+      → length (facts_after (group_of b key s) b.predicate last) ≡ 1 + length (facts_after (group_of b key s) b.predicate (Some f))
+  member-counted last f r e = ap length (walk-some (λ f. f.predicate == b.predicate) (group_of b key s) last f (IsStrictlySortedBy-filter fact_cmp (is_in_group b key) s r) (sym e)) ∙ omega arith
+
+  -- where there is no next one, none is left
+  pub members-counted : (last : Option Fact) → None ≡ next_fact (group_of b key s) b.predicate last → length (facts_after (group_of b key s) b.predicate last) ≡ 0
+  members-counted last e = ap length (filter-find_none (is_left b.predicate last) (group_of b key s) (sym e))

@@ -7,3 +7,4 @@ pub mod BoundLemmas
 pub mod NextLemmas
 pub mod AppliedLemmas
 pub mod RunLemmas
+pub mod MemberLemmas

@@ -1,6 +1,8 @@
 -- The choice of the group of least key, made along a walk.
 --
 --   comes_before b f best       the key of the fact comes before that of the best so far, if there is one
+--   first_of b key state        the first fact of the group of the key
+--   LeadsExcess b state f       the fact is the first of its group, and the group is over the bound
 --   IsUpTo b best key           the key of the best so far does not come after this key
 --   IsOverBest b state best     the group of the best so far, if there is one, is over the bound
 --   Improves b state best f new   the best so far after one more fact
@@ -12,6 +14,7 @@ use Rattle.std.specs.Ordering.{nat_cmp, is_lt}
 use Rattle.std.specs.Cmp.Lexicographic.{slice_cmp}
 use Rattle.ipa_spec.specs.declared.bounds.Bound.{Bound}
 use Rattle.ipa_logic.specs.Groups.{key_of, group_of}
+use Rattle.ipa_logic.specs.Views.{next_fact}
 use Rattle.ipa_logic.specs.DueDrops.{Exceeds, IsWithin, IsLeastOver, IsGreatest}
 use Rattle.ipa_logic.specs.declared.facts.Fact.{Fact}
 
@@ -19,6 +22,15 @@ use Rattle.ipa_logic.specs.declared.facts.Fact.{Fact}
 abbrev pub comes_before : Bound → Fact → Option Fact → Bool
 comes_before b f None = true
 comes_before b f (Some best) = is_lt (slice_cmp nat_cmp (key_of b f) (key_of b best))
+
+-- the first fact of the group of this key
+abbrev pub first_of : Bound → List ℕ → List Fact → Option Fact
+first_of b key state = next_fact (group_of b key state) b.predicate None
+
+-- the fact is the first of its group, and the group is over the bound
+pub record LeadsExcess (b : Bound) (state : List Fact) (f : Fact) : Type 0 where
+  pub first : first_of b (key_of b f) state ≡ Some f
+  pub over : Exceeds b (key_of b f) state
 
 -- there is a best so far, and this key does not come before its key
 abbrev pub IsUpTo : Bound → Option Fact → List ℕ → Type 0
@@ -33,7 +45,7 @@ IsOverBest b state (Some best) = Exceeds b (key_of b best) state
 -- the best so far after one more fact
 pub record Improves (b : Bound) (state : List Fact) (best : Option Fact) (f : Fact) (new : Option Fact) : Type 0 where
   pub over : IsOverBest b state best → IsOverBest b state new
-  pub own : Exceeds b (key_of b f) state → IsUpTo b new (key_of b f)
+  pub own : LeadsExcess b state f → IsUpTo b new (key_of b f)
   pub others : (key : List ℕ) → IsUpTo b best key → IsUpTo b new key
 
 -- the fact is the greatest of the group of least key over the bound

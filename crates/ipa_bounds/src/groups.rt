@@ -1,9 +1,10 @@
 //! Groups of facts that a bound counts together.
-ghost use Rattle.std.specs.Prelude.{◌≡◌, ◌↔◌, IsTrue, MatchOption};
+ghost use Rattle.std.specs.Prelude.{◌≡◌, ◌↔◌, IsTrue, Some, MatchOption};
 ghost use Rattle.ipa_logic.specs.Groups.{key_of, is_in_group};
 ghost use Rattle.ipa_logic.specs.DueDrops.{Exceeds, IsWithin, IsLeastOver};
-ghost use Rattle.ipa_bounds.specs.Choices.{comes_before, Improves};
+ghost use Rattle.ipa_bounds.specs.Choices.{comes_before, first_of, LeadsExcess, Improves};
 
+use crate::members::next_member;
 use crate::runs::{Found, least_in_order};
 use crate::walks::true_facts;
 use ipa_logic::{Fact, View};
@@ -32,15 +33,33 @@ fn exceeds<V: View>(view: &V, bound: &Bound, key: &[u16; 3]) -> bool
     ensures { IsTrue result ↔ Exceeds bound.now key.now (V.facts view.now) }
 {
     let mut count = 0;
-    for fact in true_facts(view, bound.predicate) {
-        if is_in_group(bound, key, &fact) {
-            if count == bound.most {
-                return true;
-            }
-            count += 1;
+    let mut last = None;
+    while let Some(fact) = next_member(view, bound, key, last) {
+        if count == bound.most {
+            return true;
         }
+        count += 1;
+        last = Some(fact);
     }
     false
+}
+
+// Whether the fact is the first of the group of this key.
+fn is_first<V: View>(view: &V, bound: &Bound, key: &[u16; 3], fact: &Fact) -> bool
+    ensures { IsTrue result ↔ (first_of bound.now key.now (V.facts view.now) ≡ Some fact.now) }
+{
+    match next_member(view, bound, key, None) {
+        Some(first) => first.cmp(fact).is_eq(),
+        None => false,
+    }
+}
+
+// Whether the fact is the first of its group, and the group has more facts than the bound allows.
+fn leads_excess<V: View>(view: &V, bound: &Bound, fact: &Fact) -> bool
+    ensures { IsTrue result ↔ LeadsExcess bound.now (V.facts view.now) fact.now }
+{
+    let key = key_of(bound, fact);
+    is_first(view, bound, &key, fact) && exceeds(view, bound, &key)
 }
 
 // A fact of the group of least key that has more facts than the bound allows, or `None` where no group has.
@@ -53,7 +72,8 @@ pub(crate) fn least_over<V: View>(view: &V, bound: &Bound) -> Option<Fact>
     }
 }
 
-// The same, in whatever order the keys come: the group of each fact whose key comes before the best so far is counted.
+// The same, in whatever order the keys come: the group of each fact that is its first, and whose key comes before
+// the best so far, is counted.
 fn least_by_key<V: View>(view: &V, bound: &Bound) -> Option<Fact>
     ensures { MatchOption result (IsWithin bound.now (V.facts view.now)) (λ f. IsLeastOver bound.now (key_of bound.now f) (V.facts view.now)) }
 {
@@ -64,11 +84,12 @@ fn least_by_key<V: View>(view: &V, bound: &Bound) -> Option<Fact>
     best
 }
 
-// The fact, where its group is over the bound and its key comes before that of the best so far, and otherwise the best so far.
+// The fact, where it is the first of a group over the bound whose key comes before that of the best so far, and
+// otherwise the best so far.
 fn better<V: View>(view: &V, bound: &Bound, best: Option<Fact>, fact: Fact) -> Option<Fact>
     ensures { Improves bound.now (V.facts view.now) best fact result }
 {
-    if comes_before(bound, &fact, best) && exceeds(view, bound, &key_of(bound, &fact)) {
+    if comes_before(bound, &fact, best) && leads_excess(view, bound, &fact) {
         Some(fact)
     } else {
         best

@@ -20,6 +20,7 @@ mod after;
 mod drops;
 mod greatest;
 mod groups;
+mod members;
 mod over;
 mod runs;
 mod walks;

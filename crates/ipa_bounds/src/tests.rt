@@ -72,7 +72,7 @@ fn enrol(rt: &(impl Abort + AllocGlobal)) -> Result<Operation, Fail> {
     })
 }
 
-// At most `players` players in a cup, and at most `seats` players between two cups.
+// At most `players` players in a cup, at most `seats` players between two cups, and at most one cup a player.
 fn spec_of(rt: &(impl Abort + AllocGlobal), players: u16, seats: u16) -> Result<Spec, Fail> {
     let mut sorts = List::new(rt.alloc());
     sorts.push(named(rt, b"player"))?;
@@ -86,6 +86,7 @@ fn spec_of(rt: &(impl Abort + AllocGlobal), players: u16, seats: u16) -> Result<
     let (p, c, d) = (named(rt, b"p"), named(rt, b"c"), named(rt, b"d"));
     bounds.push(bound(rt, b"size", ENROLLED, [p, c, p], 0, players))?;
     bounds.push(bound(rt, b"seats", SEAT, [c, p, d], 1, seats))?;
+    bounds.push(bound(rt, b"cups", ENROLLED, [p, c, p], 1, 1))?;
     let spec = Spec::new(sorts, predicates, List::new(rt.alloc()), operations, bounds);
     match spec {
         Ok(spec) => Ok(spec),
