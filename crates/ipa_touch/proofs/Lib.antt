@@ -6,3 +6,5 @@ pub mod OrderLemmas
 pub mod BestLemmas
 pub mod TouchLemmas
 pub mod ClauseLemmas
+pub mod NextLemmas
+pub mod LeapLemmas

@@ -8,6 +8,7 @@ use Rattle.std.specs.List.{slice_set}
 use Rattle.ipa_logic.specs.Facts.{Universe, size_of}
 use Rattle.ipa_logic.specs.Truth.{element_of, IsOver}
 use Rattle.ipa_logic.specs.Values.{IsPartial, Agrees}
+use Rattle.ipa_touch.specs.Leaps.{Leaps}
 use Rattle.ipa_touch.specs.Searches.{Fits, PassPinned, FirstPinned, Covers}
 
 module _ (universe : Universe) (sorts : List ℕ) where
@@ -84,6 +85,15 @@ module _ (p : List ℕ → Bool) (universe : Universe) (sorts : List ℕ) (pins 
     passes = λ v o fit a l. elim (cases_lt (element_of v place) x) [
       | inl lt ↦ b.passes v o fit a lt
       | inr ge ↦ f.passes v o fit (agrees-next values v place x inside a (omega arith))
+    ];
+  }
+
+  -- elements with which all values pass are leapt over
+  pub below-leap : (values : List ℕ) (place x next : ℕ) → PassBelow values place x → Leaps p place values x next → PassBelow values place next
+  below-leap values place x next b leaps = record {
+    passes = λ v o fit a l. elim (cases_lt (element_of v place) x) [
+      | inl lt ↦ b.passes v o fit a lt
+      | inr ge ↦ leaps.passes v a ge l
     ];
   }
 

@@ -1,3 +1,4 @@
 pub mod Turns
 pub mod Searches
 pub mod Decided
+pub mod Leaps

@@ -1,6 +1,7 @@
 //! The first instance that an action breaks.
-ghost use Rattle.std.specs.Prelude.{◌≤◌, length, MatchOption};
+ghost use Rattle.std.specs.Prelude.{◌≡◌, ◌≤◌, length, MatchOption};
 ghost use Rattle.ipa_spec.specs.Actions.{effects_of, sorts_of_vars};
+ghost use Rattle.ipa_spec.specs.Limits.{IsFaultless};
 ghost use Rattle.ipa_logic.specs.Facts.{has};
 ghost use Rattle.ipa_logic.specs.Truth.{Keeps, KeepsClause, IsFirstBroken};
 ghost use Rattle.ipa_logic.specs.Touches.{plain_application};
@@ -36,7 +37,7 @@ pub fn first_broken<V: View>(
         action,
         args,
     };
-    for (number, clause) in spec.clauses().as_slice().iter().enumerate() {
+    for (number, clause) in clauses_of(spec).iter().enumerate() {
         if let Some(values) = first_broken_values(&step, clause) {
             return Some(Broken {
                 clause: number as u8,
@@ -45,6 +46,14 @@ pub fn first_broken<V: View>(
         }
     }
     None
+}
+
+// The clauses, in declared order.
+fn clauses_of(spec: &Spec) -> &[Clause]
+    ensures value { result.now ≡ spec.now.clauses }
+    ensures faultless { IsFaultless spec.now }
+{
+    spec.clauses().as_slice()
 }
 
 // The first values under which the clause is not true after the action: of those under which the action

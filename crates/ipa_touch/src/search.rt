@@ -2,7 +2,8 @@
 //!
 //! The instances that fit the pins are gone through in lexicographic order of their values, one
 //! variable at a level of the recursion. A pinned variable has one element to try. Where the
-//! variables so far make the instance true, no more of them are tried.
+//! variables so far make the instance true, no more of them are tried, and elements with which a denied
+//! fact of the clause is sure to be false are leapt over.
 ghost use Rattle.std.specs.Prelude.{◌≡◌, ℕ, ◌<◌, ◌≤◌, None, List, length, slice_index_or, MatchOption};
 ghost use Rattle.ipa_spec.specs.Actions.{sorts_of_vars};
 ghost use Rattle.ipa_logic.specs.Truth.{element_of};
@@ -10,6 +11,7 @@ ghost use Rattle.ipa_logic.specs.Values.{IsPartial};
 ghost use Rattle.ipa_touch.specs.Turns.{passes_after};
 ghost use Rattle.ipa_touch.specs.Searches.{Fits, PassPinned, FirstPinned, Covers};
 
+use crate::leaps::leap;
 use crate::settled::is_settled;
 use crate::step::{Step, passes_after};
 use ipa_logic::{View, size_of};
@@ -41,12 +43,14 @@ pub(crate) fn first_pinned<V: View>(
         return None;
     }
     let elements = elements_to_try(pins, at, size_of(step.universe, variable.sort));
-    for element in elements.first..elements.end {
+    let mut element = leap(step, clause, at, &values, elements.first, elements.end);
+    while element < elements.end {
         let mut next = values;
         next[at as usize] = element;
         if let Some(found) = first_pinned(step, clause, pins, at + 1, next) {
             return Some(found);
         }
+        element = leap(step, clause, at, &values, element + 1, elements.end);
     }
     None
 }

@@ -191,8 +191,20 @@ fn broken_by(
     action: Action,
     args: &[u16; 4],
 ) -> Option<Broken> {
-    match keeps(spec, &UNIVERSE, state) {
-        None => first_broken(spec, &UNIVERSE, state, action, args),
+    broken_over(rt, spec, &UNIVERSE, state, action, args)
+}
+
+// The same over any universe.
+fn broken_over(
+    rt: &(impl Abort + AllocGlobal),
+    spec: &Spec,
+    universe: &Universe,
+    state: &State,
+    action: Action,
+    args: &[u16; 4],
+) -> Option<Broken> {
+    match keeps(spec, universe, state) {
+        None => first_broken(spec, universe, state, action, args),
         Some(_) => panic!(rt; "the state breaks a clause"),
     }
 }
@@ -241,6 +253,39 @@ fn finds_the_first_that_is_broken(rt: HostRuntime) -> Result<(), Fail> {
     );
     assert!(rt; broken_by(&rt, &spec, &state, Action::Op(4), &[1, 0, 0, 0]).is_none());
     assert!(rt; broken_by(&rt, &spec, &state, Action::Drop(0), &[2, 1, 0, 0]).is_none());
+    Ok(())
+}
+
+/// Elements that stand in no fact are passed over, and those of facts that stand far apart are found.
+#[test]
+fn finds_facts_that_stand_far_apart(rt: HostRuntime) -> Result<(), Fail> {
+    let spec = spec_of(&rt)?;
+    let wide = Universe {
+        sizes: [40, 2, 0, 0, 0, 0, 0, 0],
+    };
+    let state = state_of(&rt, &[player(5), player(9), player(30), enrolled(30, 1)])?;
+    assert!(rt;
+        broken_over(&rt, &spec, &wide, &state, Action::Op(0), &[5, 1, 0, 0])
+            == Some(Broken {
+                clause: 1,
+                values: [5, 30, 1, 0]
+            })
+    );
+    assert!(rt;
+        broken_over(&rt, &spec, &wide, &state, Action::Op(0), &[39, 0, 0, 0])
+            == Some(Broken {
+                clause: 0,
+                values: [39, 0, 0, 0]
+            })
+    );
+    assert!(rt;
+        broken_over(&rt, &spec, &wide, &state, Action::Op(2), &[0, 0, 0, 0])
+            == Some(Broken {
+                clause: 0,
+                values: [30, 1, 0, 0]
+            })
+    );
+    assert!(rt; broken_over(&rt, &spec, &wide, &state, Action::Op(0), &[9, 0, 0, 0]).is_none());
     Ok(())
 }
 
