@@ -1,0 +1,4 @@
+pub mod ListingLemmas
+pub mod QuestionLemmas
+pub mod AnswerLemmas
+pub mod FirstLemmas

@@ -1,0 +1,4 @@
+pub mod Models
+pub mod Questions
+pub mod Listing
+pub mod Answers
