@@ -1,0 +1,16 @@
+mod AskedLemmas
+mod BreakLemmas
+mod CaseLemmas
+mod ConflictLemmas
+mod DropLemmas
+mod FittingLemmas
+mod GatherLemmas
+mod GroundedLemmas
+mod LossLemmas
+mod ReportLemmas
+mod TriedLemmas
+mod OrderLemmas
+mod CollectLemmas
+mod CollectSteps
+mod WidthLemmas
+mod AcceptLemmas

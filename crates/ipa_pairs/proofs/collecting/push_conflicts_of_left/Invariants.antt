@@ -1,0 +1,8 @@
+use Rattle.ipa_pairs.specs.Collecting.{ExtendsConflicts}
+use Rattle.ipa_pairs.proofs.OrderLemmas.{IsOfLeftBelow}
+use Rattle.ipa_pairs.specs.Grounded.{AreOf}
+use Rattle.ipa_pairs.proofs.collecting.push_conflicts_of_left.Given as goal
+
+-- the list has grown by the examples of the right actions so far
+abbrev pub invariant-loop-place : goal.invariant-loop-place
+invariant-loop-place l = ExtendsConflicts l.spec (IsOfLeftBelow l.spec l.left l.place) l.initial.conflicts l.conflicts × AreOf l.spec l.grounded

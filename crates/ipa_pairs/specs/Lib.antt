@@ -1,0 +1,9 @@
+pub mod Width
+pub mod Examples
+pub mod Analyses
+pub mod Asked
+pub mod Grounded
+pub mod Patterned
+pub mod Openness
+pub mod Triples
+pub mod Collecting

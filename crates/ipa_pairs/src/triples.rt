@@ -1,0 +1,55 @@
+//! The search for a conflict of two actions on a clause.
+//!
+//! The patterns of the triple's variables are gone through in order. On a pattern, tests that look
+//! at no state come first, and most patterns end there. Then each literal that can be lost is taken
+//! in clause order, and two states are sought for it, one that left can have left and one that
+//! right can have left. Neither depends on the other.
+ghost use Rattle.std.specs.Prelude.{◌≡◌, ◌<◌, ℕ, length, List as Items, IfOk, MatchOption};
+ghost use Rattle.ipa_spec.specs.Actions.{IsAction};
+ghost use Rattle.ipa_logic.specs.Conflicts.{Conflict as InConflict};
+ghost use Rattle.ipa_pairs.specs.Analyses.{triple_of};
+ghost use Rattle.ipa_pairs.specs.Examples.{IsReportedExample};
+ghost use Rattle.ipa_pairs.specs.Grounded.{AreOf};
+
+use crate::analysis::Conflict;
+use crate::cases::conflict_on;
+use crate::groundings::Grounding;
+use crate::sorts::triple_sorts;
+use ipa_cases::laws::{conflicts_are_on_patterns, patterns_of_triples_fit};
+use ipa_ground::Patterns;
+use ipa_spec::{Action, List, Spec};
+use std::alloc::{AllocError, Global};
+
+/// The reported example of a triple, and `None` where it is not in conflict.
+pub(crate) fn find_conflict<'a>(
+    alloc: Global,
+    spec: &'a Spec,
+    grounded: &mut List<Grounding<'a>>,
+    left: Action,
+    right: Action,
+    number: u8,
+) -> Result<Option<Conflict>, AllocError>
+    requires left { IsAction spec.now left }
+    requires right { IsAction spec.now right }
+    requires clause { number < length spec.now.clauses }
+    requires of { AreOf spec.now grounded.old }
+    ensures of { AreOf spec.now grounded.new }
+    ensures found { IfOk result (λ found. MatchOption found
+        (InConflict spec.now left right number → ⊥)
+        (λ e. IsReportedExample spec.now e × (triple_of e ≡ record { left = left; right = right; clause = number }))) }
+{
+    let Some(clause) = spec.clauses().get(number as usize) else {
+        unreachable!()
+    };
+    patterns_of_triples_fit();
+    conflicts_are_on_patterns();
+    let sorts = triple_sorts(spec, left, right, clause);
+    let mut patterns = Patterns::new(sorts.as_slice());
+    while let Some(pattern) = patterns.next() {
+        match conflict_on(alloc, spec, grounded, left, right, number, clause, &pattern)? {
+            None => {}
+            Some(conflict) => return Ok(Some(conflict)),
+        }
+    }
+    Ok(None)
+}
