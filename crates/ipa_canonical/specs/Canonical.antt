@@ -1,0 +1,104 @@
+-- The canonical text of a specification: a line for each of its parts, in declared order, with names in place of numbers.
+--
+--   pred_form ..          the form of the line of a part
+--   operation_forms s o   an operation, then its needs, then its effects
+--   bound_forms s b       a bound, then its further removes
+--   forms_of s            the forms of all lines
+--   canonical_text s      their canonical lines
+--
+-- A number that names nothing, of which a specification without a fault has none, has the name of the part that it
+-- stands in.
+use Rattle.std.specs.Prelude.{ℕ, List, ◌∷◌, ◌++◌, map, take, slice_get, slice_index_or, Option, None, Some, if◌then◌else◌}
+use Rattle.std.specs.List.{flat_map}
+use Rattle.std.specs.Option.{option_map_or}
+use Rattle.ipa_spec.specs.Actions.{arity_of}
+use Rattle.ipa_spec.specs.declared.names.Name.{Name}
+use Rattle.ipa_spec.specs.declared.predicates.Predicate.{Predicate}
+use Rattle.ipa_spec.specs.declared.predicates.Var.{Var}
+use Rattle.ipa_spec.specs.declared.clauses.Atom.{Atom}
+use Rattle.ipa_spec.specs.declared.clauses.Literal.{Literal}
+use Rattle.ipa_spec.specs.declared.clauses.Literal.TheVariants.{Holds, Fails, Same, Differ}
+use Rattle.ipa_spec.specs.declared.clauses.Clause.{Clause}
+use Rattle.ipa_spec.specs.declared.operations.Arg.{Arg}
+use Rattle.ipa_spec.specs.declared.operations.Arg.TheVariants.{Var as Parameter, Any}
+use Rattle.ipa_spec.specs.declared.operations.Effect.{Effect}
+use Rattle.ipa_spec.specs.declared.operations.Operation.{Operation}
+use Rattle.ipa_spec.specs.declared.bounds.Bound.{Bound}
+use Rattle.ipa_spec.specs.declared.specification.Specification.{Specification}
+use Rattle.ipa_forms.specs.Layout.{text_of}
+use Rattle.ipa_forms.specs.declared.forms.Typed.{Typed}
+use Rattle.ipa_forms.specs.declared.forms.AtomForm.{AtomForm}
+use Rattle.ipa_forms.specs.declared.forms.LiteralForm.{LiteralForm}
+use Rattle.ipa_forms.specs.declared.forms.LiteralForm.TheVariants as said
+use Rattle.ipa_forms.specs.declared.forms.Form.{Form}
+use Rattle.ipa_forms.specs.declared.forms.Form.TheVariants as line
+
+-- the names of these numbers among names
+abbrev pub names_at : List Name → Name → List ℕ → List Name
+names_at names own numbers = map (λ n. slice_index_or names n own) numbers
+
+abbrev pub predicate_name : List Predicate → Name → ℕ → Name
+predicate_name ps own n = option_map_or (λ p. p.name) (slice_get ps n) own
+
+-- only the used places of a predicate, an atom, an effect or a bound are said
+abbrev pub pred_form : List Name → Predicate → Form
+pred_form sorts p = line.Pred p.name (names_at sorts p.name (take p.arity p.sorts)) p.rule
+
+abbrev pub typed_form : List Name → Var → Typed
+typed_form sorts v = record { name = v.name; sort = slice_index_or sorts v.sort v.name }
+
+abbrev pub atom_form : List Predicate → Name → List Name → Atom → AtomForm
+atom_form ps own vars a = record { predicate = predicate_name ps own a.predicate; args = names_at vars own (take (arity_of ps a.predicate) a.args) }
+
+abbrev pub literal_form : List Predicate → Name → List Name → Literal → LiteralForm
+literal_form ps own vars (Holds a) = said.Holds (atom_form ps own vars a)
+literal_form ps own vars (Fails a) = said.Fails (atom_form ps own vars a)
+literal_form ps own vars (Same v w) = said.Same (slice_index_or vars v own) (slice_index_or vars w own)
+literal_form ps own vars (Differ v w) = said.Differ (slice_index_or vars v own) (slice_index_or vars w own)
+
+-- the names of variables
+abbrev pub names_of : List Var → List Name
+names_of vars = map (λ v. v.name) vars
+
+abbrev pub clause_form : List Name → List Predicate → Clause → Form
+clause_form sorts ps c = line.Clause c.name (map (typed_form sorts) c.vars) (map (literal_form ps c.name (names_of c.vars)) c.literals)
+
+abbrev pub arg_form : Name → List Name → Arg → Option Name
+arg_form own vars (Parameter v) = Some (slice_index_or vars v own)
+arg_form own vars Any = None
+
+abbrev pub args_form : List Predicate → Name → List Name → Effect → List (Option Name)
+args_form ps own vars e = map (arg_form own vars) (take (arity_of ps e.predicate) e.args)
+
+abbrev pub need_form : List Predicate → Name → List Name → Literal → Form
+need_form ps own vars l = line.Need (literal_form ps own vars l)
+
+abbrev pub effect_form : List Predicate → Name → List Name → Effect → Form
+effect_form ps own vars e = if e.add then line.Add (predicate_name ps own e.predicate) (args_form ps own vars e) else line.Del (predicate_name ps own e.predicate) (args_form ps own vars e)
+
+abbrev pub remove_form : List Predicate → Name → List Name → Effect → Form
+remove_form ps own vars e = line.Drops (predicate_name ps own e.predicate) (args_form ps own vars e)
+
+abbrev pub operation_forms : List Name → List Predicate → Operation → List Form
+operation_forms sorts ps o = line.Op o.name (map (typed_form sorts) o.params) ∷ (map (need_form ps o.name (names_of o.params)) o.needs ++ map (effect_form ps o.name (names_of o.params)) o.effects)
+
+-- the variables of a bound, one for each place of its predicate
+abbrev pub bound_vars : List Predicate → Bound → List Name
+bound_vars ps b = take (arity_of ps b.predicate) b.vars
+
+abbrev pub bound_form : List Predicate → Bound → Form
+bound_form ps b = line.Bound b.name (predicate_name ps b.name b.predicate) (bound_vars ps b) (slice_index_or b.vars b.counted b.name) b.most
+
+abbrev pub bound_forms : List Predicate → Bound → List Form
+bound_forms ps b = bound_form ps b ∷ map (remove_form ps b.name (bound_vars ps b)) b.removes
+
+abbrev pub forms_of : Specification → List Form
+forms_of s =
+    map (λ name. line.Sort name) s.sorts
+    ++ (map (pred_form s.sorts) s.predicates
+    ++ (map (clause_form s.sorts s.predicates) s.clauses
+    ++ (flat_map (operation_forms s.sorts s.predicates) s.operations
+    ++ flat_map (bound_forms s.predicates) s.bounds)))
+
+abbrev pub canonical_text : Specification → List ℕ
+canonical_text s = flat_map text_of (forms_of s)
