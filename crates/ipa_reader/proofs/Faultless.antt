@@ -25,8 +25,8 @@ use Rattle.ipa_reader.specs.Meaning.{sort_number, predicate_of, var_of, literal_
 use Rattle.ipa_reader.specs.Soundness.{IsSound, IsSoundPredicate, IsSoundClause, IsSoundOperation, IsSoundBound}
 use Rattle.ipa_reader.specs.declared.flaws.Flaw.{Flaw}
 use Rattle.ipa_reader.specs.declared.flaws.Flaw.TheVariants.{Arity, UnknownName, Duplicate, FreeVariable}
-use Rattle.ipa_reader.specs.declared.forms.Typed.{Typed}
-use Rattle.ipa_reader.specs.declared.forms.LiteralForm.{LiteralForm}
+use Rattle.ipa_forms.specs.declared.forms.Typed.{Typed}
+use Rattle.ipa_forms.specs.declared.forms.LiteralForm.{LiteralForm}
 use Rattle.ipa_reader.specs.declared.declared.PredicateLine.{PredicateLine}
 use Rattle.ipa_reader.specs.declared.declared.ClauseLine.{ClauseLine}
 use Rattle.ipa_reader.specs.declared.declared.EffectLine.{EffectLine}

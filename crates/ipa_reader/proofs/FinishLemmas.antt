@@ -2,12 +2,14 @@
 --
 --   finished      the document that stands behind all lines
 --   refused_end   the refusal of its base
+--   setup_fits    what its setup keeps
 use Rattle.std.proofs.Common.{◌≡◌, ℕ, List, sym, ap, subst, ◌∙◌}
 use Rattle.ipa_text.specs.Lines.{lines_of, last_line}
 use Rattle.ipa_spec.specs.declared.specification.Specification.{Specification}
 use Rattle.ipa_logic.specs.declared.facts.Fact.{Fact}
 use Rattle.ipa_reader.specs.Meaning.{specification_of}
-use Rattle.ipa_reader.specs.Setups.{size_list, IsStateOf, IsRefusedAtEnd, IsKept}
+use Rattle.ipa_reader.specs.Setups.{size_list, IsSetup, IsStateOf, IsRefusedAtEnd, IsKept}
+use Rattle.ipa_reader.specs.Soundness.{IsSoundStanding}
 use Rattle.ipa_reader.specs.Documents.{ReadsAs, IsRefused}
 use Rattle.ipa_reader.specs.Documents.IsRefused.{at_end}
 use Rattle.ipa_reader.specs.Readings.{IsReadUpTo}
@@ -50,3 +52,16 @@ refused_end bytes s spec state number kind h same base is refused = at_end (reco
   number_is = sym is;
   refused = subst (λ t. IsRefusedAtEnd (specification_of t.declared) t.arranged.elements state kind) h.standing_is (subst (λ x. IsRefusedAtEnd x s.arranged.elements state kind) same refused);
 })
+
+pub setup_fits : (s : Standing) (sizes : List ℕ) → IsSoundStanding s → sizes ≡ size_list s.arranged.elements → IsSetup sizes s.arranged.elements s.arranged.replicas s.arranged.sessions
+setup_fits s sizes h e = record {
+  lists = h.apart.lists;
+  counts = e;
+  apart = h.apart.each;
+  sort_sizes = h.elements.each;
+  some_replica = h.some_replica;
+  replica_count = h.replicas;
+  session_count = h.sessions;
+  session_replicas = h.placed.at_replicas.at;
+  requests = h.requests;
+}

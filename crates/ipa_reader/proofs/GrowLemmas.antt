@@ -16,10 +16,10 @@ use Rattle.ipa_reader.specs.Flaws.{use_has, sort_has, list_has, variables_have, 
 use Rattle.ipa_reader.specs.Soundness.{AreSoundParts, IsSoundPredicate, IsSoundClause, IsSoundOperation, IsSoundBound, IsSound}
 use Rattle.ipa_reader.specs.declared.flaws.Flaw.{Flaw}
 use Rattle.ipa_reader.specs.declared.flaws.Flaw.TheVariants.{Arity, SortMismatch, UnknownName, Duplicate, WildAdd, FreeVariable}
-use Rattle.ipa_reader.specs.declared.forms.Typed.{Typed}
-use Rattle.ipa_reader.specs.declared.forms.AtomForm.{AtomForm}
-use Rattle.ipa_reader.specs.declared.forms.LiteralForm.{LiteralForm}
-use Rattle.ipa_reader.specs.declared.forms.LiteralForm.TheVariants.{Holds, Fails, Same, Differ}
+use Rattle.ipa_forms.specs.declared.forms.Typed.{Typed}
+use Rattle.ipa_forms.specs.declared.forms.AtomForm.{AtomForm}
+use Rattle.ipa_forms.specs.declared.forms.LiteralForm.{LiteralForm}
+use Rattle.ipa_forms.specs.declared.forms.LiteralForm.TheVariants.{Holds, Fails, Same, Differ}
 use Rattle.ipa_reader.specs.declared.declared.PredicateLine.{PredicateLine}
 use Rattle.ipa_reader.specs.declared.declared.ClauseLine.{ClauseLine}
 use Rattle.ipa_reader.specs.declared.declared.EffectLine.{EffectLine}

@@ -4,16 +4,17 @@
 --   at_number          what is found by its name stands at the name's number
 --   number_same        names that are the same have the same number
 --   number_below       a name that is there has a number below the count
+--   number_within      and so has the place of a name
 --   slice_get-mapped   what is mapped at a place
 use Rattle.std.proofs.Common.{◌≡◌, ℕ, ◌+◌, ◌<◌, ◌≤◌, Bool, true, false, cond, not, ◌||◌, ltb, List, [], ◌∷◌, length, map, take, Option, Some, None, unwrap_or, refl, sym, ap, subst, zero, suc, arith}
 use Rattle.std.specs.List.{slice_get, list_any, find, prefix_len, position}
-use Rattle.std.specs.Option.{option_map}
+use Rattle.std.specs.Option.{option_map, IfSome}
 use Rattle.std.specs.Str.{bytes_eq}
-use Rattle.std.proofs.lemmas.Bool.{ltb-false}
+use Rattle.std.proofs.lemmas.Bool.{ltb-false, ltb-true}
 use Rattle.std.proofs.lemmas.Slice.Eq.{bytes_eq-Decides}
 use Rattle.ipa_spec.specs.Faults.{same_name, has_repeat}
 use Rattle.ipa_spec.specs.declared.names.Name.{Name}
-use Rattle.ipa_reader.specs.Naming.{is_among, number_or_count}
+use Rattle.ipa_reader.specs.Naming.{is_among, number_in, number_or_count}
 
 pub same_bytes : (a b : Name) → same_name a b ≡ true → take a.len a.bytes ≡ take b.len b.bytes
 same_bytes a b h = (bytes_eq-Decides (take a.len a.bytes) (take b.len b.bytes)).0 h
@@ -67,6 +68,14 @@ prefix_below (n ∷ names) name h = below_step (same_name n name) (is_among name
 
 pub number_below : (names : List Name) (name : Name) → is_among names name ≡ true → number_or_count names name < length names
 number_below names name h = subst (λ n. n < length names) (sym (number_is names name)) (prefix_below names name h)
+
+-- the place of a name is below the count
+pub number_within : (names : List Name) (name : Name) → IfSome (number_in names name) (λ n. n < length names)
+number_within names name = step (ltb (prefix_len (λ other. not (same_name other name)) names) (length names)) refl
+  where
+    step : (b : Bool) → ltb (prefix_len (λ other. not (same_name other name)) names) (length names) ≡ b → IfSome (cond b (Some (prefix_len (λ other. not (same_name other name)) names)) None) (λ n. n < length names)
+    step true e = ltb-true (prefix_len (λ other. not (same_name other name)) names) (length names) e
+    step false e = tt
 
 -- names of which none stands twice, made of others that keep their names
 any_mapped : {X Y : Type 0} (test : Y → Bool) (of : X → Y) (xs : List X) → list_any test (map of xs) ≡ list_any (λ x. test (of x)) xs

@@ -22,10 +22,10 @@ use Rattle.ipa_reader.specs.Meaning.{sort_number, variable_number, predicate_of,
 use Rattle.ipa_reader.specs.Soundness.{IsSound}
 use Rattle.ipa_reader.specs.declared.flaws.Flaw.{Flaw}
 use Rattle.ipa_reader.specs.declared.flaws.Flaw.TheVariants.{Arity, SortMismatch, UnknownName, WildAdd, FreeVariable}
-use Rattle.ipa_reader.specs.declared.forms.Typed.{Typed}
-use Rattle.ipa_reader.specs.declared.forms.AtomForm.{AtomForm}
-use Rattle.ipa_reader.specs.declared.forms.LiteralForm.{LiteralForm}
-use Rattle.ipa_reader.specs.declared.forms.LiteralForm.TheVariants.{Holds, Fails, Same, Differ}
+use Rattle.ipa_forms.specs.declared.forms.Typed.{Typed}
+use Rattle.ipa_forms.specs.declared.forms.AtomForm.{AtomForm}
+use Rattle.ipa_forms.specs.declared.forms.LiteralForm.{LiteralForm}
+use Rattle.ipa_forms.specs.declared.forms.LiteralForm.TheVariants.{Holds, Fails, Same, Differ}
 use Rattle.ipa_reader.specs.declared.declared.PredicateLine.{PredicateLine}
 use Rattle.ipa_reader.specs.declared.declared.EffectLine.{EffectLine}
 use Rattle.ipa_reader.specs.declared.declared.Declared.{Declared}

@@ -19,8 +19,8 @@ use Rattle.ipa_reader.specs.Refusals.{line_has}
 use Rattle.ipa_reader.specs.Soundness.{AreSoundParts, IsSoundOperation, IsSound}
 use Rattle.ipa_reader.specs.declared.flaws.Flaw.{Flaw}
 use Rattle.ipa_reader.specs.declared.flaws.Flaw.TheVariants.{Arity, UnknownName, Duplicate}
-use Rattle.ipa_reader.specs.declared.forms.Form.{Form}
-use Rattle.ipa_reader.specs.declared.forms.Form.TheVariants.{Sort, Pred, Clause, Op, Need, Add, Del, Bound, Drops, Elem, Base, Replicas, Session, Do, Show}
+use Rattle.ipa_forms.specs.declared.forms.Form.{Form}
+use Rattle.ipa_forms.specs.declared.forms.Form.TheVariants.{Sort, Pred, Clause, Op, Need, Add, Del, Bound, Drops, Elem, Base, Replicas, Session, Do, Show}
 use Rattle.ipa_reader.specs.declared.declared.PredicateLine.{PredicateLine}
 use Rattle.ipa_reader.specs.declared.declared.EffectLine.{EffectLine}
 use Rattle.ipa_reader.specs.declared.declared.OperationLines.{OperationLines}

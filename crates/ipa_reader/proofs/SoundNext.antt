@@ -2,77 +2,100 @@
 --
 --   sound_next       so it is
 --   replica_named    a session that is not refused names one of the replicas
-use Rattle.std.proofs.Common.{◌≡◌, ◌+◌, ◌<◌, ◌≤◌, [], ◌∷◌, length, None, refl, sym, subst, ◌-◌, arith}
+use Rattle.std.proofs.Common.{◌≡◌, ◌+◌, ◌<◌, ◌≤◌, false, ◌||◌, List, [], ◌∷◌, ◌++◌, length, None, refl, sym, subst, ◌-◌, arith}
+use Rattle.std.proofs.lemmas.Bool.{or_parts}
 use Rattle.std.proofs.lemmas.List.{length-append}
+use Rattle.ipa_spec.specs.Faults.{has_repeat}
+use Rattle.ipa_spec.specs.declared.names.Name.{Name}
 use Rattle.ipa_reader.specs.Arrangements.{elements_of, do_said, show_said, with_request, with_arrangement}
 use Rattle.ipa_reader.specs.Standings.{next_standing}
-use Rattle.ipa_reader.specs.Refusals.{request_count, refusal_at}
-use Rattle.ipa_reader.specs.Soundness.{IsWithinElements, IsSoundStanding, NamesReplica}
-use Rattle.ipa_reader.specs.declared.document.SessionWork.{SessionWork}
-use Rattle.ipa_reader.specs.declared.forms.Form.{Form}
-use Rattle.ipa_reader.specs.declared.forms.Form.TheVariants.{Sort, Pred, Clause, Op, Need, Add, Del, Bound, Drops, Elem, Base, Replicas, Session, Do, Show}
+use Rattle.ipa_reader.specs.Flaws.{sort_has}
+use Rattle.ipa_reader.specs.Ordering.{is_session}
+use Rattle.ipa_reader.specs.Refusals.{elements_have, line_has, request_count, refusal_at}
+use Rattle.ipa_reader.specs.Soundness.{IsWithinElements, AreApart, ArePlaced, IsSoundStanding, NamesReplica}
+use Rattle.ipa_reader.specs.declared.flaws.Flaw.TheVariants.{Duplicate}
+use Rattle.ipa_reader.specs.declared.sessions.SessionWork.{SessionWork}
+use Rattle.ipa_forms.specs.declared.forms.Form.{Form}
+use Rattle.ipa_forms.specs.declared.forms.Form.TheVariants.{Sort, Pred, Clause, Op, Need, Add, Del, Bound, Drops, Elem, Base, Replicas, Session, Do, Show}
 use Rattle.ipa_reader.specs.declared.standing.Standing.{Standing}
 use Rattle.ipa_reader.proofs.ListFacts.{length-with_last}
 use Rattle.ipa_reader.proofs.Unrefused.{Unrefused, unrefused, setup_kept, replicas_kept}
 use Rattle.ipa_reader.proofs.SoundDeclared.{sound_declared}
-use Rattle.ipa_reader.proofs.SoundArranged.{within_elements, request_count-push, request_count-last, names_replica}
+use Rattle.ipa_reader.proofs.SoundArranged.{within_elements, apart_elements, placed_push, placed_last, placed_more, placed_none, request_count-push, request_count-last, names_replica}
 
 -- a line that arranges nothing
-unchanged : (s : Standing) (line : Form) → IsSoundStanding s → Unrefused s line → with_arrangement s.declared s.arranged line ≡ s.arranged → IsSoundStanding (next_standing s line)
-unchanged s line h u same = record {
+unchanged : (s : Standing) (line : Form) → IsSoundStanding s → Unrefused s line → with_arrangement s.declared s.arranged line ≡ s.arranged → is_session line ≡ false → IsSoundStanding (next_standing s line)
+unchanged s line h u same other = record {
   declared = sound_declared s line h.declared u;
   elements = subst (λ a. IsWithinElements a.elements) (sym same) h.elements;
+  apart = subst (λ a. AreApart a.elements) (sym same) h.apart;
   some_replica = subst (λ a. 0 < a.replicas) (sym same) h.some_replica;
   replicas = subst (λ a. a.replicas ≤ 8) (sym same) h.replicas;
   sessions = subst (λ a. length a.sessions ≤ 16) (sym same) h.sessions;
+  placed = subst (λ a. ArePlaced a.replicas a.sessions (s.place.after_session || is_session line)) (sym same) (subst (λ b. ArePlaced s.arranged.replicas s.arranged.sessions (s.place.after_session || b)) (sym other) (placed_more s.arranged.replicas s.arranged.sessions s.place.after_session h.placed));
   requests = subst (λ a. request_count a.sessions ≤ 16384) (sym same) h.requests;
 }
 
+-- elements of which none stands twice
+element_flaw : (s : Standing) (sort : Name) (names : List Name) → line_has Duplicate s (Elem sort names) ≡ false → has_repeat (λ name. name) (elements_of s.declared s.arranged.elements sort ++ names) ≡ false
+unfolding line_has
+element_flaw s sort names h = (or_parts (sort_has Duplicate s.declared sort) (elements_have Duplicate (elements_of s.declared s.arranged.elements sort) names) h).1
+
 next : (s : Standing) (line : Form) → IsSoundStanding s → Unrefused s line → IsSoundStanding (next_standing s line)
-next s (Sort name) h u = unchanged s (Sort name) h u refl
-next s (Pred name sorts rule) h u = unchanged s (Pred name sorts rule) h u refl
-next s (Clause name vars literals) h u = unchanged s (Clause name vars literals) h u refl
-next s (Op name params) h u = unchanged s (Op name params) h u refl
-next s (Need literal) h u = unchanged s (Need literal) h u refl
-next s (Add predicate args) h u = unchanged s (Add predicate args) h u refl
-next s (Del predicate args) h u = unchanged s (Del predicate args) h u refl
-next s (Bound name predicate vars counted most) h u = unchanged s (Bound name predicate vars counted most) h u refl
-next s (Drops predicate args) h u = unchanged s (Drops predicate args) h u refl
+next s (Sort name) h u = unchanged s (Sort name) h u refl refl
+next s (Pred name sorts rule) h u = unchanged s (Pred name sorts rule) h u refl refl
+next s (Clause name vars literals) h u = unchanged s (Clause name vars literals) h u refl refl
+next s (Op name params) h u = unchanged s (Op name params) h u refl refl
+next s (Need literal) h u = unchanged s (Need literal) h u refl refl
+next s (Add predicate args) h u = unchanged s (Add predicate args) h u refl refl
+next s (Del predicate args) h u = unchanged s (Del predicate args) h u refl refl
+next s (Bound name predicate vars counted most) h u = unchanged s (Bound name predicate vars counted most) h u refl refl
+next s (Drops predicate args) h u = unchanged s (Drops predicate args) h u refl refl
 next s (Elem sort names) h u = record {
   declared = h.declared;
   elements = within_elements s.declared s.arranged.elements sort names h.elements (setup_kept 14 256 (length (elements_of s.declared s.arranged.elements sort) + length names) u.setup_limit);
+  apart = apart_elements s.declared s.arranged.elements sort names h.apart h.declared.sorts.count (element_flaw s sort names (u.flawless Duplicate));
   some_replica = h.some_replica;
   replicas = h.replicas;
   sessions = h.sessions;
+  placed = placed_more s.arranged.replicas s.arranged.sessions s.place.after_session h.placed;
   requests = h.requests;
 }
 next s (Base predicate elements) h u = record {
   declared = h.declared;
   elements = h.elements;
+  apart = h.apart;
   some_replica = h.some_replica;
   replicas = h.replicas;
   sessions = h.sessions;
+  placed = placed_more s.arranged.replicas s.arranged.sessions s.place.after_session h.placed;
   requests = h.requests;
 }
 next s (Replicas number) h u =
     let kept = replicas_kept number u.setup_limit in
+    let before = (or_parts s.place.after_replicas s.place.after_session u.ordered).1 in
     record {
       declared = h.declared;
       elements = h.elements;
+      apart = h.apart;
       some_replica = omega (arith, kept.0);
       replicas = kept.1;
       sessions = h.sessions;
+      placed = placed_none s.arranged.replicas number s.arranged.sessions s.place.after_session h.placed before;
       requests = h.requests;
     }
 next s (Session number) h u =
     let kept = setup_kept 16 16 (length s.arranged.sessions + 1) u.setup_limit in
     let work : SessionWork = record { replica = number - 1; requests = [] } in
+    let named = names_replica number s.arranged.replicas u.missing in
     record {
       declared = h.declared;
       elements = h.elements;
+      apart = h.apart;
       some_replica = h.some_replica;
       replicas = h.replicas;
       sessions = omega (arith, kept, length-append s.arranged.sessions (work ∷ []));
+      placed = placed_push s.arranged.replicas s.arranged.sessions work s.place.after_session h.placed (omega (arith, named));
       requests = omega (arith, h.requests, request_count-push s.arranged.sessions work refl);
     }
 next s (Do operation elements) h u =
@@ -81,9 +104,11 @@ next s (Do operation elements) h u =
     record {
       declared = h.declared;
       elements = h.elements;
+      apart = h.apart;
       some_replica = h.some_replica;
       replicas = h.replicas;
       sessions = omega (arith, h.sessions, length-with_last (with_request asked) s.arranged.sessions);
+      placed = placed_last s.arranged.replicas s.arranged.sessions asked s.place.after_session h.placed;
       requests = omega (arith, kept, request_count-last asked s.arranged.sessions);
     }
 next s (Show predicate places) h u =
@@ -92,9 +117,11 @@ next s (Show predicate places) h u =
     record {
       declared = h.declared;
       elements = h.elements;
+      apart = h.apart;
       some_replica = h.some_replica;
       replicas = h.replicas;
       sessions = omega (arith, h.sessions, length-with_last (with_request asked) s.arranged.sessions);
+      placed = placed_last s.arranged.replicas s.arranged.sessions asked s.place.after_session h.placed;
       requests = omega (arith, kept, request_count-last asked s.arranged.sessions);
     }
 

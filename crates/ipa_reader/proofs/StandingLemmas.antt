@@ -14,7 +14,7 @@ use Rattle.ipa_reader.specs.Declarations.{nothing_declared}
 use Rattle.ipa_reader.specs.Arrangements.{nothing_arranged}
 use Rattle.ipa_reader.specs.Refusals.{refusal_at}
 use Rattle.ipa_reader.specs.Documents.{AreAccepted}
-use Rattle.ipa_reader.specs.declared.forms.Form.{Form}
+use Rattle.ipa_forms.specs.declared.forms.Form.{Form}
 use Rattle.ipa_reader.proofs.ListFacts.{at_push}
 
 or_false : (a b : Bool) → (a || (b || false)) ≡ (a || b)

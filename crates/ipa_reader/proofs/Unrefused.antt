@@ -12,10 +12,11 @@ use Rattle.ipa_spec.specs.Limits.{first_there, fault_if, size_outside}
 use Rattle.ipa_spec.specs.declared.faults.SpecFault.{SpecFault}
 use Rattle.ipa_spec.specs.declared.faults.SpecFault.TheVariants as fault
 use Rattle.ipa_reader.specs.Counts.{count_above, limits_passed}
+use Rattle.ipa_reader.specs.Ordering.{is_out_of_order}
 use Rattle.ipa_reader.specs.Refusals.{line_has, faults_at, is_missing, setup_limit_at, setup_above, replicas_outside, first_kind, kind_if, refusals_at, refusal_at}
 use Rattle.ipa_reader.specs.declared.flaws.Flaw.{Flaw}
 use Rattle.ipa_reader.specs.declared.flaws.Flaw.TheVariants.{Arity, SortMismatch, UnknownName, Duplicate, WildAdd, FreeVariable}
-use Rattle.ipa_reader.specs.declared.forms.Form.{Form}
+use Rattle.ipa_forms.specs.declared.forms.Form.{Form}
 use Rattle.ipa_reader.specs.declared.refusals.DocKind.{DocKind}
 use Rattle.ipa_reader.specs.declared.refusals.DocKind.TheVariants as kind
 use Rattle.ipa_reader.specs.declared.standing.Standing.{Standing}
@@ -23,6 +24,7 @@ use Rattle.ipa_reader.specs.declared.standing.Standing.{Standing}
 pub record Unrefused (s : Standing) (line : Form) : Type 0 where
   pub flawless : (flaw : Flaw) → line_has flaw s line ≡ false
   pub limits : (n : ℕ) (o : Option SpecFault) → slice_get (limits_passed s.declared line) n ≡ Some o → o ≡ None
+  pub ordered : is_out_of_order s.place line ≡ false
   pub missing : is_missing s line ≡ false
   pub setup_limit : setup_limit_at s line ≡ None
 
@@ -64,6 +66,7 @@ unrefused s line h =
     record {
       flawless = flawless_of s line spec;
       limits = none_there (limits_passed s.declared line) (none_there (faults_at s line) spec 6 _ refl);
+      ordered = kind_if-None (is_out_of_order s.place line) kind.Order (no_kind (refusals_at s line) h 1 _ refl);
       missing = kind_if-None (is_missing s line) kind.UnknownElement (no_kind (refusals_at s line) h 2 _ refl);
       setup_limit = no_kind (refusals_at s line) h 3 _ refl;
     }

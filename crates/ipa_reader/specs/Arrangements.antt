@@ -17,10 +17,10 @@ use Rattle.ipa_logic.specs.declared.facts.Request.{Request}
 use Rattle.ipa_logic.specs.declared.facts.Request.TheVariants as request
 use Rattle.ipa_reader.specs.Naming.{number_in, number_or_count, with_last}
 use Rattle.ipa_reader.specs.Scopes.{places_of, operation_named}
-use Rattle.ipa_reader.specs.declared.forms.Form.{Form}
-use Rattle.ipa_reader.specs.declared.forms.Form.TheVariants.{Elem, Base, Replicas, Session, Do, Show}
+use Rattle.ipa_forms.specs.declared.forms.Form.{Form}
+use Rattle.ipa_forms.specs.declared.forms.Form.TheVariants.{Elem, Base, Replicas, Session, Do, Show}
 use Rattle.ipa_reader.specs.declared.declared.Declared.{Declared}
-use Rattle.ipa_reader.specs.declared.document.SessionWork.{SessionWork}
+use Rattle.ipa_reader.specs.declared.sessions.SessionWork.{SessionWork}
 use Rattle.ipa_reader.specs.declared.standing.Arranged.{Arranged}
 
 -- a sort for which no list stands has no elements

@@ -10,8 +10,8 @@ use Rattle.std.specs.Option.{option_map_or}
 use Rattle.ipa_spec.specs.Limits.{above, size_outside, first_there}
 use Rattle.ipa_spec.specs.declared.faults.SpecFault.{SpecFault}
 use Rattle.ipa_reader.specs.Naming.{last_of}
-use Rattle.ipa_reader.specs.declared.forms.Form.{Form}
-use Rattle.ipa_reader.specs.declared.forms.Form.TheVariants.{Sort, Pred, Clause, Op, Need, Add, Del, Bound, Drops}
+use Rattle.ipa_forms.specs.declared.forms.Form.{Form}
+use Rattle.ipa_forms.specs.declared.forms.Form.TheVariants.{Sort, Pred, Clause, Op, Need, Add, Del, Bound, Drops}
 use Rattle.ipa_reader.specs.declared.declared.Declared.{Declared}
 
 -- the limit of this number is passed by one count that is above the greatest allowed

@@ -6,9 +6,9 @@
 use Rattle.std.specs.Prelude.{true, false, List, [], ◌∷◌, ◌++◌, Option, fold}
 use Rattle.ipa_spec.specs.declared.names.Name.{Name}
 use Rattle.ipa_reader.specs.Naming.{with_last}
-use Rattle.ipa_reader.specs.declared.forms.LiteralForm.{LiteralForm}
-use Rattle.ipa_reader.specs.declared.forms.Form.{Form}
-use Rattle.ipa_reader.specs.declared.forms.Form.TheVariants.{Sort, Pred, Clause, Op, Need, Add, Del, Bound, Drops}
+use Rattle.ipa_forms.specs.declared.forms.LiteralForm.{LiteralForm}
+use Rattle.ipa_forms.specs.declared.forms.Form.{Form}
+use Rattle.ipa_forms.specs.declared.forms.Form.TheVariants.{Sort, Pred, Clause, Op, Need, Add, Del, Bound, Drops}
 use Rattle.ipa_reader.specs.declared.declared.OperationLines.{OperationLines}
 use Rattle.ipa_reader.specs.declared.declared.BoundLines.{BoundLines}
 use Rattle.ipa_reader.specs.declared.declared.EffectLine.{EffectLine}

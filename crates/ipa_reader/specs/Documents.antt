@@ -14,12 +14,12 @@ use Rattle.ipa_text.specs.Tokens.{IsCutInto, IsBadByte}
 use Rattle.ipa_text.specs.declared.numbering.Line.{Line}
 use Rattle.ipa_text.specs.declared.tokens.Token.{Token}
 use Rattle.ipa_logic.specs.declared.facts.Fact.{Fact}
-use Rattle.ipa_reader.specs.Forms.{HasForm, is_existential}
+use Rattle.ipa_forms.specs.Forms.{HasForm, is_existential}
 use Rattle.ipa_reader.specs.Standings.{standing_of}
 use Rattle.ipa_reader.specs.Refusals.{refusal_at}
 use Rattle.ipa_reader.specs.Meaning.{specification_of}
 use Rattle.ipa_reader.specs.Setups.{size_list, IsStateOf, IsRefusedAtEnd, IsKept}
-use Rattle.ipa_reader.specs.declared.forms.Form.{Form}
+use Rattle.ipa_forms.specs.declared.forms.Form.{Form}
 use Rattle.ipa_reader.specs.declared.standing.Standing.{Standing}
 use Rattle.ipa_reader.specs.declared.document.Document.{Document}
 use Rattle.ipa_reader.specs.declared.refusals.DocKind.{DocKind}

@@ -16,12 +16,12 @@ use Rattle.ipa_reader.specs.Declarations.{add_effect, remove_effect}
 use Rattle.ipa_reader.specs.Scopes.{predicate_named, places_of, sort_of_variable, operation_scope, bound_scope}
 use Rattle.ipa_reader.specs.declared.flaws.Flaw.{Flaw}
 use Rattle.ipa_reader.specs.declared.flaws.Flaw.TheVariants.{Arity, SortMismatch, UnknownName, Duplicate, WildAdd, FreeVariable}
-use Rattle.ipa_reader.specs.declared.forms.Typed.{Typed}
-use Rattle.ipa_reader.specs.declared.forms.AtomForm.{AtomForm}
-use Rattle.ipa_reader.specs.declared.forms.LiteralForm.{LiteralForm}
-use Rattle.ipa_reader.specs.declared.forms.LiteralForm.TheVariants.{Holds, Fails, Same, Differ}
-use Rattle.ipa_reader.specs.declared.forms.Form.{Form}
-use Rattle.ipa_reader.specs.declared.forms.Form.TheVariants.{Sort, Pred, Clause, Op, Need, Add, Del, Bound, Drops}
+use Rattle.ipa_forms.specs.declared.forms.Typed.{Typed}
+use Rattle.ipa_forms.specs.declared.forms.AtomForm.{AtomForm}
+use Rattle.ipa_forms.specs.declared.forms.LiteralForm.{LiteralForm}
+use Rattle.ipa_forms.specs.declared.forms.LiteralForm.TheVariants.{Holds, Fails, Same, Differ}
+use Rattle.ipa_forms.specs.declared.forms.Form.{Form}
+use Rattle.ipa_forms.specs.declared.forms.Form.TheVariants.{Sort, Pred, Clause, Op, Need, Add, Del, Bound, Drops}
 use Rattle.ipa_reader.specs.declared.declared.EffectLine.{EffectLine}
 use Rattle.ipa_reader.specs.declared.declared.Declared.{Declared}
 

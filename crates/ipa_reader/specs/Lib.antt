@@ -1,10 +1,3 @@
-pub mod Words
-pub mod Forms
-pub mod Parts
-pub mod JoiningLaws
-pub mod ListingLaws
-pub mod MemberLaws
-pub mod Lines
 pub mod Naming
 pub mod Declarations
 pub mod Ordering
@@ -17,6 +10,10 @@ pub mod Refusals
 pub mod Soundness
 pub mod Meaning
 pub mod Setups
+pub mod SetupLaws
 pub mod Documents
 pub mod Readings
-pub mod Layout
+pub mod CanonicalNamed
+pub mod CanonicalShapes
+pub mod CanonicalReading
+pub mod CanonicalWhole

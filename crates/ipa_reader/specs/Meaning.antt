@@ -21,10 +21,10 @@ use Rattle.ipa_spec.specs.declared.specification.Specification.{Specification}
 use Rattle.ipa_reader.specs.Naming.{number_or_count}
 use Rattle.ipa_reader.specs.Scopes.{bound_variables}
 use Rattle.ipa_reader.specs.Arrangements.{three, predicate_number}
-use Rattle.ipa_reader.specs.declared.forms.Typed.{Typed}
-use Rattle.ipa_reader.specs.declared.forms.AtomForm.{AtomForm}
-use Rattle.ipa_reader.specs.declared.forms.LiteralForm.{LiteralForm}
-use Rattle.ipa_reader.specs.declared.forms.LiteralForm.TheVariants.{Holds, Fails, Same, Differ}
+use Rattle.ipa_forms.specs.declared.forms.Typed.{Typed}
+use Rattle.ipa_forms.specs.declared.forms.AtomForm.{AtomForm}
+use Rattle.ipa_forms.specs.declared.forms.LiteralForm.{LiteralForm}
+use Rattle.ipa_forms.specs.declared.forms.LiteralForm.TheVariants.{Holds, Fails, Same, Differ}
 use Rattle.ipa_reader.specs.declared.declared.PredicateLine.{PredicateLine}
 use Rattle.ipa_reader.specs.declared.declared.ClauseLine.{ClauseLine}
 use Rattle.ipa_reader.specs.declared.declared.EffectLine.{EffectLine}

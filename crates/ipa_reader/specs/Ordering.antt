@@ -8,8 +8,8 @@
 use Rattle.std.specs.Prelude.{Bool, true, false, not, ◌||◌, List, reverse, find, Option, if◌then◌else◌}
 use Rattle.std.specs.List.{list_any}
 use Rattle.std.specs.Option.{option_map_or}
-use Rattle.ipa_reader.specs.declared.forms.Form.{Form}
-use Rattle.ipa_reader.specs.declared.forms.Form.TheVariants.{Op, Need, Add, Del, Bound, Drops, Elem, Base, Replicas, Session, Do, Show}
+use Rattle.ipa_forms.specs.declared.forms.Form.{Form}
+use Rattle.ipa_forms.specs.declared.forms.Form.TheVariants.{Op, Need, Add, Del, Bound, Drops, Elem, Base, Replicas, Session, Do, Show}
 use Rattle.ipa_reader.specs.declared.order.Place.{Place}
 
 abbrev pub is_setup : Form → Bool

@@ -11,7 +11,7 @@ use Rattle.ipa_reader.specs.Standings.{standing_of, next_standing}
 use Rattle.ipa_reader.specs.Refusals.{refusal_at}
 use Rattle.ipa_reader.specs.Documents.{Says, SayEach, AreAccepted, IsUnread, IsRefusedLine, IsRefused}
 use Rattle.ipa_reader.specs.Soundness.{IsSoundStanding}
-use Rattle.ipa_reader.specs.declared.forms.Form.{Form}
+use Rattle.ipa_forms.specs.declared.forms.Form.{Form}
 use Rattle.ipa_reader.specs.declared.standing.Standing.{Standing}
 use Rattle.ipa_reader.specs.declared.line_forms.TextFault.{TextFault}
 use Rattle.ipa_reader.specs.declared.line_forms.TextFault.TheVariants.{Unread, NoMemory}

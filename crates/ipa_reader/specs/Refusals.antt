@@ -20,10 +20,10 @@ use Rattle.ipa_reader.specs.Arrangements.{elements_of, parameter_sorts}
 use Rattle.ipa_reader.specs.Ordering.{is_out_of_order}
 use Rattle.ipa_reader.specs.declared.flaws.Flaw.{Flaw}
 use Rattle.ipa_reader.specs.declared.flaws.Flaw.TheVariants.{Arity, SortMismatch, UnknownName, Duplicate, WildAdd, FreeVariable}
-use Rattle.ipa_reader.specs.declared.forms.Form.{Form}
-use Rattle.ipa_reader.specs.declared.forms.Form.TheVariants.{Elem, Base, Replicas, Session, Do, Show}
+use Rattle.ipa_forms.specs.declared.forms.Form.{Form}
+use Rattle.ipa_forms.specs.declared.forms.Form.TheVariants.{Elem, Base, Replicas, Session, Do, Show}
 use Rattle.ipa_reader.specs.declared.declared.Declared.{Declared}
-use Rattle.ipa_reader.specs.declared.document.SessionWork.{SessionWork}
+use Rattle.ipa_reader.specs.declared.sessions.SessionWork.{SessionWork}
 use Rattle.ipa_reader.specs.declared.refusals.DocKind.{DocKind}
 use Rattle.ipa_reader.specs.declared.refusals.DocKind.TheVariants.{Spec, Order, UnknownElement, SetupLimit}
 use Rattle.ipa_reader.specs.declared.standing.Standing.{Standing}

@@ -4,15 +4,17 @@
 --   operation_named d name        the declared operation
 --   places_of d predicate         the names of the sorts of its places; none where it is not declared
 --   sort_of_variable scope name   the name of the sort that the variable has in a list of variables
+--   AreIndexed scope entries      the entries of a map give each variable's sort by its name
 --   operation_scope d             the parameters of the operation declared last; none where there is none
 --   bound_scope d                 the variables of the bound declared last, each of the sort of its place
-use Rattle.std.specs.Prelude.{List, [], find, map, Option}
+use Rattle.std.specs.Prelude.{◌≡◌, List, [], find, map, Option}
 use Rattle.std.specs.List.{zip}
+use Rattle.std.specs.Map.{lookup}
 use Rattle.std.specs.Option.{option_map, option_map_or}
 use Rattle.ipa_spec.specs.Faults.{same_name}
 use Rattle.ipa_spec.specs.declared.names.Name.{Name}
 use Rattle.ipa_reader.specs.Naming.{last_of}
-use Rattle.ipa_reader.specs.declared.forms.Typed.{Typed}
+use Rattle.ipa_forms.specs.declared.forms.Typed.{Typed}
 use Rattle.ipa_reader.specs.declared.declared.PredicateLine.{PredicateLine}
 use Rattle.ipa_reader.specs.declared.declared.OperationLines.{OperationLines}
 use Rattle.ipa_reader.specs.declared.declared.BoundLines.{BoundLines}
@@ -42,3 +44,7 @@ bound_variables d b = typed_by_places b.vars (places_of d b.predicate)
 
 abbrev pub bound_scope : Declared → List Typed
 bound_scope d = option_map_or (bound_variables d) (last_of d.bounds) []
+
+-- the entries of a map give each variable's sort by its name
+pub record AreIndexed (scope : List Typed) (entries : List (Name × Name)) : Type 0 where
+  pub sorts : (name : Name) → lookup (λ other. same_name other name) entries ≡ sort_of_variable scope name

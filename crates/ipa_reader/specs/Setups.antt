@@ -23,7 +23,7 @@ use Rattle.ipa_logic.specs.Groups.{Within}
 use Rattle.ipa_logic.specs.declared.facts.Fact.{Fact}
 use Rattle.ipa_reader.specs.Arrangements.{elements_at}
 use Rattle.ipa_reader.specs.Refusals.{request_count}
-use Rattle.ipa_reader.specs.declared.document.SessionWork.{SessionWork}
+use Rattle.ipa_reader.specs.declared.sessions.SessionWork.{SessionWork}
 use Rattle.ipa_reader.specs.declared.refusals.DocKind.{DocKind}
 use Rattle.ipa_reader.specs.declared.refusals.DocKind.TheVariants.{SetupLimit, BaseClause, BaseOver}
 

@@ -1,19 +1,19 @@
 //! What is said with one more setup line, by numbers.
-ghost use Rattle.std.specs.Prelude.{◌≡◌, ◌-◌, ◌<◌, ◌≤◌, ◌++◌, List, [], ◌∷◌, IfOk, IfSome, length, map, slice_index_or};
+ghost use Rattle.std.specs.Prelude.{◌≡◌, ◌-◌, ◌<◌, ◌≤◌, ◌++◌, [], ◌∷◌, IfOk, IfSome, length, map, slice_index_or};
 ghost use Rattle.std.specs.List.{zip};
 ghost use Rattle.ipa_reader.specs.Naming.{number_in, with_last};
-ghost use Rattle.ipa_reader.specs.Arrangements.{element_number, element_numbers, three, four, predicate_number, operation_number, fact_said, do_said, wanted_number, three_wanted, show_said, with_request, with_more, with_elements, nothing_arranged, with_arrangement};
-ghost use Rattle.ipa_spec.specs.declared.names.Name.{Name};
+ghost use Rattle.ipa_reader.specs.Arrangements.{element_number, element_numbers, three, four, predicate_number, operation_number, fact_said, do_said, wanted_number, three_wanted, show_said, with_request, nothing_arranged, with_arrangement};
 ghost use Rattle.ipa_reader.specs.Soundness.{IsWithinElements, NamesReplica};
 
 use crate::declared::Declared;
 use crate::declaring::ending_with;
-use crate::document::SessionWork;
+use crate::element_lists::with_elements;
 use crate::elements::{elements_of, parameter_sorts};
-use crate::forms::Form;
-use crate::naming::{number_in, number_or_count, same_name};
+use crate::naming::{number_or_count, same_name};
 use crate::scopes::places_of;
+use crate::sessions::SessionWork;
 use crate::standing::Arranged;
+use ipa_forms::Form;
 use ipa_logic::{Fact, Request};
 use ipa_spec::{List, Name};
 use std::alloc::{AllocError, Global};
@@ -278,62 +278,6 @@ fn with_request(
             Ok(all)
         }
         None => Ok(List::from_vec(items)),
-    }
-}
-
-/// Empty lists behind the others, until a list of this number stands.
-fn padded(
-    alloc: Global,
-    mut lists: Vec<List<Name>>,
-    number: usize,
-) -> Result<Vec<List<Name>>, AllocError>
-    ensures within { IfOk result (λ all. number < length all.items) }
-    ensures more { (names : List Name) → IfOk result (λ all. with_more number names all.items ≡ with_more number names lists.items) }
-{
-    'padding: while lists.len() <= number {
-        lists.push(List::new(alloc))?;
-    }
-    Ok(lists)
-}
-
-/// A list of names with others behind it.
-fn extended(own: List<Name>, names: &[Name]) -> Result<List<Name>, AllocError>
-    ensures { IfOk result (λ all. all ≡ own ++ names.now) }
-{
-    let mut all = own.into_vec();
-    all.extend_from_slice(names)?;
-    Ok(List::from_vec(all))
-}
-
-/// More names in the list of a number.
-fn with_more(
-    alloc: Global,
-    elements: List<List<Name>>,
-    number: usize,
-    names: &[Name],
-) -> Result<List<List<Name>>, AllocError>
-    ensures { IfOk result (λ now. now ≡ with_more number names.now elements) }
-{
-    let mut lists = padded(alloc, elements.into_vec(), number)?;
-    let own = lists.remove(number);
-    let grown = extended(own, names)?;
-    lists.insert(number, grown)?;
-    Ok(List::from_vec(lists))
-}
-
-/// More elements of a sort.
-fn with_elements(
-    alloc: Global,
-    declared: &Declared,
-    elements: List<List<Name>>,
-    sort: &Name,
-    names: &[Name],
-) -> Result<List<List<Name>>, AllocError>
-    ensures { IfOk result (λ now. now ≡ with_elements declared.now elements sort.now names.now) }
-{
-    match number_in(declared.sorts.as_slice(), sort) {
-        Some(number) => with_more(alloc, elements, number, names),
-        None => Ok(elements),
     }
 }
 

@@ -1,5 +1,5 @@
 //! What the lines of a document declare, by names.
-use crate::forms::{LiteralForm, Typed};
+use ipa_forms::{LiteralForm, Typed};
 use ipa_spec::{List, Name, Rule};
 
 /// A declared predicate.

@@ -6,7 +6,7 @@ ghost use Rattle.ipa_reader.specs.Declarations.{nothing_declared, with_need, wit
 use crate::declared::{
     BoundLines, ClauseLine, Declared, EffectLine, OperationLines, PredicateLine,
 };
-use crate::forms::{Form, LiteralForm};
+use ipa_forms::{Form, LiteralForm};
 use ipa_spec::{List, Name};
 use std::alloc::{AllocError, Global};
 

@@ -1,15 +1,10 @@
 //! Documents: a specification, and the setup that a run of it begins with.
-use ipa_logic::{Request, State, Universe};
-use ipa_spec::{List, Name, Spec};
+ghost use Rattle.ipa_reader.specs.Setups.{IsSetup, IsKept};
+ghost use Rattle.ipa_reader.specs.SetupLaws.{IsSetup-prop, IsKept-prop};
 
-/// What a session is to do, at the replica of this number, counted from 0.
-#[derive(Drop)]
-pub struct SessionWork {
-    /// The session's replica.
-    pub replica: u8,
-    /// Its requests, in order.
-    pub requests: List<Request>,
-}
+use crate::sessions::SessionWork;
+use ipa_logic::{State, Universe};
+use ipa_spec::{List, Name, Spec};
 
 /// What a run begins with.
 #[derive(Drop)]
@@ -24,13 +19,15 @@ pub struct Setup {
     pub replicas: u8,
     /// The sessions, in order.
     pub sessions: List<SessionWork>,
+    pub ghost fits: { IsSetup universe.sizes elements replicas sessions } by { IsSetup-prop universe.sizes elements replicas sessions },
 }
 
-/// A document: a specification and its setup.
+/// A document: a specification and its setup, whose base keeps all clauses and bounds.
 #[derive(Drop)]
 pub struct Document {
     /// The specification.
     pub spec: Spec,
     /// The setup.
     pub setup: Setup,
+    pub ghost kept: { IsKept spec setup.universe.sizes setup.base } by { IsKept-prop spec setup.universe.sizes setup.base },
 }

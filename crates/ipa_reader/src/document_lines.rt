@@ -9,17 +9,17 @@ ghost use Rattle.ipa_reader.specs.Soundness.{IsSound, IsSoundStanding};
 ghost use Rattle.ipa_spec.specs.Limits.{fault_of};
 ghost use Rattle.ipa_reader.specs.Meaning.{specification_of};
 ghost use Rattle.ipa_reader.specs.declared.declared.Declared.{Declared};
-ghost use Rattle.ipa_reader.specs.declared.forms.Form.{Form};
+ghost use Rattle.ipa_forms.specs.declared.forms.Form.{Form};
 ghost use Rattle.ipa_reader.specs.declared.standing.Standing.{Standing};
 
 use crate::arranging::{nothing_arranged, with_arrangement};
 use crate::declaring::{nothing_declared, with_declaration};
-use crate::forms::Form;
 use crate::line_forms::{TextFault, form_of};
 use crate::order::{Place, next_place};
 use crate::refusals::DocFault;
 use crate::refusing::refusal_at;
 use crate::standing::Standing;
+use ipa_forms::Form;
 use ipa_text::Lines;
 use std::alloc::{AllocError, Global};
 

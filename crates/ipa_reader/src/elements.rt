@@ -7,10 +7,10 @@ ghost use Rattle.ipa_reader.specs.Refusals.{elements_have, parameter_count, is_n
 
 use crate::declared::Declared;
 use crate::flaws::Flaw;
-use crate::forms::Typed;
 use crate::naming::{is_among, number_in, stands_twice};
 use crate::scopes::operation_named;
 use crate::standing::Standing;
+use ipa_forms::Typed;
 use ipa_spec::{List, Name};
 use std::alloc::{AllocError, Global};
 

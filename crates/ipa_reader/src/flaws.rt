@@ -4,9 +4,10 @@ ghost use Rattle.std.specs.List.{list_any, zip};
 ghost use Rattle.ipa_reader.specs.Flaws.{use_has, sort_has, list_has, variables_have, is_elsewhere, place_has, variable_has, arity_named, atom_has, comparison_has, literal_has, argument_place_has, wild_has, argument_has, effect_has, counted_has, bound_has};
 
 use crate::declared::{Declared, EffectLine};
-use crate::forms::{AtomForm, LiteralForm, Typed};
 use crate::naming::{is_among, same_name, stands_twice};
-use crate::scopes::{places_of, predicate_named, sort_of_variable};
+use crate::scopes::{places_of, predicate_named};
+use crate::variables::Variables;
+use ipa_forms::{AtomForm, LiteralForm, Typed};
 use ipa_spec::{List, Name};
 use std::alloc::{AllocError, Global};
 
@@ -53,17 +54,17 @@ pub(crate) fn list_has(alloc: Global, flaw: Flaw, names: &[Name]) -> Result<bool
 }
 
 /// A variable that is declared with another sort.
-fn is_elsewhere(scope: &[Typed], sort: &Name, name: &Name) -> bool
+fn is_elsewhere(scope: &Variables, sort: &Name, name: &Name) -> bool
     ensures { result ≡ is_elsewhere scope.now sort.now name.now }
 {
-    match sort_of_variable(scope, name) {
+    match scope.sort_of(name) {
         Some(own) => !same_name(&own, sort),
         None => false,
     }
 }
 
 /// A variable in a place of a sort.
-fn place_has(flaw: Flaw, scope: &[Typed], name: &Name, sort: &Name) -> bool
+fn place_has(flaw: Flaw, scope: &Variables, name: &Name, sort: &Name) -> bool
     ensures { result ≡ place_has flaw scope.now (name.now, sort.now) }
 {
     match flaw {
@@ -73,11 +74,11 @@ fn place_has(flaw: Flaw, scope: &[Typed], name: &Name, sort: &Name) -> bool
 }
 
 /// The use of a variable.
-fn variable_has(flaw: Flaw, scope: &[Typed], name: &Name) -> bool
+fn variable_has(flaw: Flaw, scope: &Variables, name: &Name) -> bool
     ensures { result ≡ variable_has flaw scope.now name.now }
 {
     match flaw {
-        Flaw::FreeVariable => sort_of_variable(scope, name).is_none(),
+        Flaw::FreeVariable => scope.sort_of(name).is_none(),
         _ => false,
     }
 }
@@ -93,7 +94,7 @@ pub(crate) fn arity_named(declared: &Declared, predicate: &Name) -> Option<usize
 }
 
 /// Variables in places of sorts.
-fn some_place_has(flaw: Flaw, scope: &[Typed], names: &[Name], sorts: &[Name]) -> bool
+fn some_place_has(flaw: Flaw, scope: &Variables, names: &[Name], sorts: &[Name]) -> bool
     ensures { result ≡ list_any (place_has flaw scope.now) (zip names.now sorts.now) }
 {
     names
@@ -103,14 +104,14 @@ fn some_place_has(flaw: Flaw, scope: &[Typed], names: &[Name], sorts: &[Name]) -
 }
 
 /// Uses of variables.
-fn some_variable_has(flaw: Flaw, scope: &[Typed], names: &[Name]) -> bool
+fn some_variable_has(flaw: Flaw, scope: &Variables, names: &[Name]) -> bool
     ensures { result ≡ list_any (variable_has flaw scope.now) names.now }
 {
     names.iter().any(|name| variable_has(flaw, scope, name))
 }
 
 /// An atom.
-fn atom_has(flaw: Flaw, declared: &Declared, scope: &[Typed], atom: &AtomForm) -> bool
+fn atom_has(flaw: Flaw, declared: &Declared, scope: &Variables, atom: &AtomForm) -> bool
     ensures { result ≡ atom_has flaw declared.now scope.now atom.now }
 {
     use_has(
@@ -126,11 +127,11 @@ fn atom_has(flaw: Flaw, declared: &Declared, scope: &[Typed], atom: &AtomForm) -
 }
 
 /// Two compared variables.
-fn comparison_has(flaw: Flaw, scope: &[Typed], one: &Name, other: &Name) -> bool
+fn comparison_has(flaw: Flaw, scope: &Variables, one: &Name, other: &Name) -> bool
     ensures { result ≡ comparison_has flaw scope.now one.now other.now }
 {
     match flaw {
-        Flaw::SortMismatch => match sort_of_variable(scope, one) {
+        Flaw::SortMismatch => match scope.sort_of(one) {
             Some(sort) => is_elsewhere(scope, &sort, other),
             None => false,
         },
@@ -142,7 +143,7 @@ fn comparison_has(flaw: Flaw, scope: &[Typed], one: &Name, other: &Name) -> bool
 pub(crate) fn literal_has(
     flaw: Flaw,
     declared: &Declared,
-    scope: &[Typed],
+    scope: &Variables,
     literal: &LiteralForm,
 ) -> bool
     ensures { result ≡ literal_has flaw declared.now scope.now literal.now }
@@ -159,7 +160,7 @@ pub(crate) fn literal_has(
 pub(crate) fn some_literal_has(
     flaw: Flaw,
     declared: &Declared,
-    scope: &[Typed],
+    scope: &Variables,
     literals: &[LiteralForm],
 ) -> bool
     ensures { result ≡ list_any (literal_has flaw declared.now scope.now) literals.now }
@@ -170,7 +171,7 @@ pub(crate) fn some_literal_has(
 }
 
 /// An argument in a place of a sort.
-fn argument_place_has(flaw: Flaw, scope: &[Typed], argument: &Option<Name>, sort: &Name) -> bool
+fn argument_place_has(flaw: Flaw, scope: &Variables, argument: &Option<Name>, sort: &Name) -> bool
     ensures { result ≡ argument_place_has flaw scope.now (argument.now, sort.now) }
 {
     match argument {
@@ -182,7 +183,7 @@ fn argument_place_has(flaw: Flaw, scope: &[Typed], argument: &Option<Name>, sort
 /// Arguments in places of sorts.
 fn some_argument_place_has(
     flaw: Flaw,
-    scope: &[Typed],
+    scope: &Variables,
     arguments: &[Option<Name>],
     sorts: &[Name],
 ) -> bool
@@ -194,7 +195,7 @@ fn some_argument_place_has(
 }
 
 /// An argument of an effect.
-fn argument_has(flaw: Flaw, scope: &[Typed], add: bool, argument: &Option<Name>) -> bool
+fn argument_has(flaw: Flaw, scope: &Variables, add: bool, argument: &Option<Name>) -> bool
     ensures { result ≡ argument_has flaw scope.now add argument.now }
 {
     match argument {
@@ -204,7 +205,7 @@ fn argument_has(flaw: Flaw, scope: &[Typed], add: bool, argument: &Option<Name>)
 }
 
 /// Arguments of an effect.
-fn some_argument_has(flaw: Flaw, scope: &[Typed], add: bool, arguments: &[Option<Name>]) -> bool
+fn some_argument_has(flaw: Flaw, scope: &Variables, add: bool, arguments: &[Option<Name>]) -> bool
     ensures { result ≡ list_any (argument_has flaw scope.now add) arguments.now }
 {
     arguments
@@ -216,7 +217,7 @@ fn some_argument_has(flaw: Flaw, scope: &[Typed], add: bool, arguments: &[Option
 pub(crate) fn effect_has(
     flaw: Flaw,
     declared: &Declared,
-    scope: &[Typed],
+    scope: &Variables,
     add: bool,
     predicate: &Name,
     args: &List<Option<Name>>,

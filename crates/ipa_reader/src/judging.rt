@@ -3,16 +3,18 @@ ghost use Rattle.std.specs.Prelude.{◌≡◌, ◌+◌, [], ◌∷◌, IfOk, map
 ghost use Rattle.std.specs.Option.{option_map_or};
 ghost use Rattle.ipa_spec.specs.Limits.{above, size_outside};
 ghost use Rattle.ipa_reader.specs.Naming.{is_among, last_of};
-ghost use Rattle.ipa_reader.specs.Flaws.{declaration_has, specification_line_has};
+ghost use Rattle.ipa_reader.specs.Scopes.{operation_scope};
+ghost use Rattle.ipa_reader.specs.Flaws.{declaration_has, effect_has, specification_line_has};
 ghost use Rattle.ipa_reader.specs.Counts.{count_above, effects_above, limit_passed};
 
 use crate::declared::Declared;
 use crate::flaws::{
     Flaw, bound_has, effect_has, literal_has, some_literal_has, some_sort_has, variables_have,
 };
-use crate::forms::{Form, LiteralForm, Typed};
 use crate::naming::{is_among, same_name};
 use crate::scopes::{bound_scope, last_bound, last_operation, operation_scope};
+use crate::variables::Variables;
+use ipa_forms::{Form, LiteralForm, Typed};
 use ipa_spec::{List, Name, SpecFault};
 use std::alloc::{AllocError, Global};
 
@@ -127,10 +129,11 @@ fn clause_line_has(
     ensures { IfOk result (λ found. found ≡ specification_line_has flaw declared.now (Form.Clause name.now vars.now literals.now)) }
 {
     let variables = variables_have(alloc, flaw, declared, vars.as_slice())?;
+    let scope = Variables::new(alloc, vars.as_slice())?;
     Ok(
         clause_is_declared(flaw, declared, name)
             || variables
-            || some_literal_has(flaw, declared, vars.as_slice(), literals.as_slice()),
+            || some_literal_has(flaw, declared, &scope, literals.as_slice()),
     )
 }
 
@@ -147,6 +150,35 @@ fn operation_line_has(
 {
     let variables = variables_have(alloc, flaw, declared, params.as_slice())?;
     Ok(operation_is_declared(flaw, declared, name) || variables)
+}
+
+/// A `need` line.
+#[tactic(auto, unfolding(crate::specs::Flaws::specification_line_has))]
+fn need_line_has(
+    alloc: Global,
+    flaw: Flaw,
+    declared: &Declared,
+    literal: &LiteralForm,
+) -> Result<bool, AllocError>
+    ensures { IfOk result (λ found. found ≡ specification_line_has flaw declared.now (Form.Need literal.now)) }
+{
+    let scope = Variables::new(alloc, operation_scope(declared))?;
+    Ok(literal_has(flaw, declared, &scope, literal))
+}
+
+/// An `add` or a `del` line.
+fn effect_line_has(
+    alloc: Global,
+    flaw: Flaw,
+    declared: &Declared,
+    add: bool,
+    predicate: &Name,
+    args: &List<Option<Name>>,
+) -> Result<bool, AllocError>
+    ensures { IfOk result (λ found. found ≡ effect_has flaw declared.now (operation_scope declared.now) (record { add = add; predicate = predicate.now; args = args.now })) }
+{
+    let scope = Variables::new(alloc, operation_scope(declared))?;
+    Ok(effect_has(flaw, declared, &scope, add, predicate, args))
 }
 
 /// A `bound` line.
@@ -178,7 +210,8 @@ fn drops_line_has(
 ) -> Result<bool, AllocError>
     ensures { IfOk result (λ found. found ≡ specification_line_has flaw declared.now (Form.Drops predicate.now args.now)) }
 {
-    let scope = bound_scope(alloc, declared)?;
+    let vars = bound_scope(alloc, declared)?;
+    let scope = Variables::new(alloc, &vars)?;
     Ok(effect_has(flaw, declared, &scope, false, predicate, args))
 }
 
@@ -204,28 +237,13 @@ pub(crate) fn specification_line_has(
             literals,
         } => clause_line_has(alloc, flaw, declared, name, vars, literals),
         Form::Op { name, params } => operation_line_has(alloc, flaw, declared, name, params),
-        Form::Need { literal } => Ok(literal_has(
-            flaw,
-            declared,
-            operation_scope(declared),
-            literal,
-        )),
-        Form::Add { predicate, args } => Ok(effect_has(
-            flaw,
-            declared,
-            operation_scope(declared),
-            true,
-            predicate,
-            args,
-        )),
-        Form::Del { predicate, args } => Ok(effect_has(
-            flaw,
-            declared,
-            operation_scope(declared),
-            false,
-            predicate,
-            args,
-        )),
+        Form::Need { literal } => need_line_has(alloc, flaw, declared, literal),
+        Form::Add { predicate, args } => effect_line_has(
+            alloc, flaw, declared, true, predicate, args,
+        ),
+        Form::Del { predicate, args } => effect_line_has(
+            alloc, flaw, declared, false, predicate, args,
+        ),
         Form::Bound {
             name,
             predicate,

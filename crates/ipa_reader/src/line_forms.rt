@@ -6,9 +6,8 @@ ghost use Rattle.ipa_reader.specs.Documents.{Says};
 ghost use Rattle.ipa_reader.specs.Readings.{IsTextFault};
 ghost use Rattle.ipa_reader.specs.declared.line_forms.TextFault.TheVariants.{NoMemory};
 
-use crate::forms::Form;
-use crate::reading::{is_existential, read_form};
 use crate::refusals::DocKind;
+use ipa_forms::{Form, is_existential, read_form};
 use ipa_text::{CutFault, Token, cut_line};
 use std::alloc::{AllocError, Global};
 

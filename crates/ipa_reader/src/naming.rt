@@ -2,8 +2,10 @@
 ghost use Rattle.std.specs.Prelude.{◌≡◌, ◌<◌, ◌≤◌, IfOk, IfSome, length};
 ghost use Rattle.std.specs.List.{list_any};
 ghost use Rattle.ipa_spec.specs.Faults.{same_name, has_repeat};
+ghost use Rattle.ipa_spec.specs.declared.names.Name.{Name};
 ghost use Rattle.ipa_reader.specs.Naming.{is_among, number_in, number_or_count};
 
+use indexmap::IndexSet;
 use ipa_spec::Name;
 use std::alloc::{AllocError, Global};
 
@@ -21,32 +23,23 @@ pub(crate) fn is_among(names: &[Name], name: &Name) -> bool
     names.iter().any(|other| same_name(other, name))
 }
 
-/// Whether a later name is the same as this one.
-fn stands_again(name: &Name, later: &[Name]) -> bool
-    ensures { result ≡ list_any (λ other. same_name name.now other) later.now }
-{
-    later.iter().any(|other| same_name(name, other))
-}
+/// Names are equal exactly where they have the same bytes.
+pub(crate) fn equal_names()
+    ensures { (one other : Name) → ⟦<Name as PartialEq>⟧.eq one other ≡ same_name other one }
+{}
 
-/// Whether a name stands twice.
-fn has_repeat(names: &[Name]) -> bool
-    ensures { result ≡ has_repeat (λ name. name) names.now }
-{
-    let mut rest = names;
-    while let [first, later @ ..] = rest {
-        if stands_again(first, later) {
-            return true;
-        }
-        rest = later;
-    }
-    false
-}
-
-/// Whether a name stands twice, or want of memory.
-pub(crate) fn stands_twice(_alloc: Global, names: &[Name]) -> Result<bool, AllocError>
+/// Whether a name stands twice. Names are looked up, so that long lists take no more time for each.
+pub(crate) fn stands_twice(alloc: Global, names: &[Name]) -> Result<bool, AllocError>
     ensures { IfOk result (λ found. found ≡ has_repeat (λ name. name) names.now) }
 {
-    Ok(has_repeat(names))
+    equal_names();
+    let mut seen = IndexSet::new(alloc);
+    for name in names {
+        if !seen.insert(*name)? {
+            return Ok(true);
+        }
+    }
+    Ok(false)
 }
 
 /// The place of a name, if it stands there.

@@ -4,17 +4,14 @@ ghost use Rattle.ipa_spec.specs.declared.names.Name.{Name};
 ghost use Rattle.ipa_spec.specs.declared.operations.Arg.TheVariants.{Any};
 ghost use Rattle.ipa_reader.specs.Naming.{number_in, number_or_count};
 ghost use Rattle.ipa_reader.specs.Arrangements.{three};
-ghost use Rattle.ipa_reader.specs.Meaning.{sort_number, variable_number, predicate_of, var_of, atom_of, literal_of, clause_of, arg_of, three_args, effect_of, operation_of, three_names, bound_of, specification_of};
+ghost use Rattle.ipa_reader.specs.Meaning.{sort_number, variable_number, predicate_of, var_of, atom_of, literal_of, clause_of, arg_of, three_args, effect_of, operation_of};
 ghost use Rattle.ipa_reader.specs.Soundness.{IsSound};
 
 use crate::arranging::predicate_number;
-use crate::declared::{
-    BoundLines, ClauseLine, Declared, EffectLine, OperationLines, PredicateLine,
-};
-use crate::forms::{AtomForm, LiteralForm, Typed};
+use crate::declared::{ClauseLine, Declared, EffectLine, OperationLines, PredicateLine};
 use crate::naming::{number_or_count, same_name};
-use crate::scopes::bound_variables;
-use ipa_spec::{Arg, Atom, Bound, Clause, Effect, List, Literal, Name, Operation, Predicate, Var};
+use ipa_forms::{AtomForm, LiteralForm, Typed};
+use ipa_spec::{Arg, Atom, Clause, Effect, List, Literal, Name, Operation, Predicate, Var};
 use std::alloc::{AllocError, Global};
 
 /// The number of a sort.
@@ -260,7 +257,7 @@ fn effect_of(
 }
 
 /// Effects.
-fn effects_of(
+pub(crate) fn effects_of(
     alloc: Global,
     declared: &Declared,
     scope: &[Typed],
@@ -309,49 +306,6 @@ fn operation_of(
     })
 }
 
-/// The name in a place, and another past the end.
-fn name_at(names: &[Name], place: usize, other: Name) -> Name
-    ensures { result ≡ slice_index_or names.now place other }
-{
-    match names.get(place) {
-        Some(name) => *name,
-        None => other,
-    }
-}
-
-/// The first three names: the first one past the end, and the bound's own where there is none.
-fn three_names(own: Name, names: &[Name]) -> [Name; 3]
-    ensures { result ≡ three_names own names.now }
-{
-    match names {
-        [] => [own, own, own],
-        [first, others @ ..] => [
-            *first,
-            name_at(others, 0, *first),
-            name_at(others, 1, *first),
-        ],
-    }
-}
-
-/// A declared bound.
-fn bound_of(alloc: Global, declared: &Declared, bound: &BoundLines) -> Result<Bound, AllocError>
-    requires predicates { length declared.now.predicates ≤ 32 }
-    requires variables { length bound.now.vars ≤ 3 }
-    requires size { bound.now.most ≤ 65535 }
-    ensures { IfOk result (λ bound_is. bound_is ≡ bound_of declared.now bound.now) }
-{
-    let scope = bound_variables(alloc, declared, bound)?;
-    let removes = effects_of(alloc, declared, &scope, bound.removes.as_slice())?;
-    Ok(Bound {
-        name: bound.name,
-        predicate: predicate_number(declared, &bound.predicate),
-        vars: three_names(bound.name, bound.vars.as_slice()),
-        counted: number_or_count(bound.vars.as_slice(), &bound.counted) as u8,
-        most: bound.most as u16,
-        removes,
-    })
-}
-
 /// The declared predicates.
 pub(crate) fn predicates_of(
     alloc: Global,
@@ -390,18 +344,6 @@ pub(crate) fn operations_of(
     let mut all = List::new(alloc);
     for operation in declared.operations.as_slice() {
         all.push(operation_of(alloc, declared, operation)?)?;
-    }
-    Ok(all)
-}
-
-/// The declared bounds.
-pub(crate) fn bounds_of(alloc: Global, declared: &Declared) -> Result<List<Bound>, AllocError>
-    requires { IsSound declared.now }
-    ensures { IfOk result (λ all. all ≡ map (bound_of declared.now) declared.now.bounds) }
-{
-    let mut all = List::new(alloc);
-    for bound in declared.bounds.as_slice() {
-        all.push(bound_of(alloc, declared, bound)?)?;
     }
     Ok(all)
 }

@@ -2,7 +2,7 @@
 ghost use Rattle.std.specs.Prelude.{◌≡◌};
 ghost use Rattle.ipa_reader.specs.Ordering.{is_out_of_order, next_place};
 
-use crate::forms::Form;
+use ipa_forms::Form;
 
 /// What the order of lines depends on, of the lines before a line.
 #[derive(Clone, Copy, PartialEq, Eq)]

@@ -8,10 +8,11 @@ ghost use Rattle.ipa_reader.specs.Readings.{IsReadUpTo, IsFault};
 ghost use Rattle.ipa_reader.specs.Soundness.{IsSound};
 
 use crate::base::{refusal_at_end, state_of, universe_of};
+use crate::bounding::bounds_of;
 use crate::declared::Declared;
 use crate::document::{Document, Setup};
 use crate::document_lines::take_lines;
-use crate::numbering::{bounds_of, clauses_of, operations_of, predicates_of};
+use crate::numbering::{clauses_of, operations_of, predicates_of};
 use crate::refusals::DocFault;
 use crate::standing::Standing;
 use ipa_spec::Spec;

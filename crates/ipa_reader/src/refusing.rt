@@ -2,18 +2,18 @@
 ghost use Rattle.std.specs.Prelude.{◌≡◌, ◌^◌, ◌<◌, ◌≤◌, IfOk};
 ghost use Rattle.ipa_reader.specs.Refusals.{line_has, spec_fault_at, is_missing, request_count, setup_above, replicas_outside, setup_limit_at, refusal_at};
 
-use crate::document::SessionWork;
 use crate::elements::{
     elements_have, elements_of, parameter_count, parameter_sorts, some_element_is_missing,
     some_wanted_is_missing,
 };
 use crate::flaws::{Flaw, arity_named, sort_has, use_has};
-use crate::forms::Form;
 use crate::judging::{limit_passed, specification_line_has};
 use crate::order::is_out_of_order;
 use crate::refusals::DocKind;
 use crate::scopes::places_of;
+use crate::sessions::SessionWork;
 use crate::standing::Standing;
+use ipa_forms::Form;
 use ipa_spec::{List, Name, SpecFault};
 use std::alloc::{AllocError, Global};
 

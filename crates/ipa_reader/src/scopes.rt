@@ -2,11 +2,11 @@
 ghost use Rattle.std.specs.Prelude.{◌≡◌, IfOk};
 ghost use Rattle.std.specs.Option.{option_copied};
 ghost use Rattle.ipa_reader.specs.Naming.{last_of};
-ghost use Rattle.ipa_reader.specs.Scopes.{predicate_named, operation_named, places_of, sort_of_variable, operation_scope, typed_by_places, bound_variables, bound_scope};
+ghost use Rattle.ipa_reader.specs.Scopes.{predicate_named, operation_named, places_of, operation_scope, typed_by_places, bound_variables, bound_scope};
 
 use crate::declared::{BoundLines, Declared, OperationLines, PredicateLine};
-use crate::forms::Typed;
 use crate::naming::same_name;
+use ipa_forms::Typed;
 use ipa_spec::Name;
 use std::alloc::{AllocError, Global};
 
@@ -40,16 +40,6 @@ pub(crate) fn places_of<'a>(declared: &'a Declared, predicate: &Name) -> &'a [Na
         Some(predicate) => predicate.sorts.as_slice(),
         None => &[],
     }
-}
-
-/// The name of the sort that a variable has in a list of variables.
-pub(crate) fn sort_of_variable(scope: &[Typed], name: &Name) -> Option<Name>
-    ensures { result ≡ sort_of_variable scope.now name.now }
-{
-    scope
-        .iter()
-        .find(|variable| same_name(&variable.name, name))
-        .map(|variable| variable.sort)
 }
 
 /// The operation declared last.

@@ -1,7 +1,7 @@
 //! What stands before a line.
 use crate::declared::Declared;
-use crate::document::SessionWork;
 use crate::order::Place;
+use crate::sessions::SessionWork;
 use ipa_logic::Fact;
 use ipa_spec::{List, Name};
 

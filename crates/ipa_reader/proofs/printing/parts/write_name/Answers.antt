@@ -1,5 +1,0 @@
-use Rattle.ipa_reader.proofs.PrintLemmas.{IsUtf8-name}
-use Rattle.ipa_reader.proofs.printing.parts.write_name.Goals as goal
-
-pub unreachable-requires : goal.unreachable-requires
-unreachable-requires c = c.in-Err.ensures.cases.0 (IsUtf8-name c.as_bytes.result.now c.as_bytes.ensures.named)

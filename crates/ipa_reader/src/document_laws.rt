@@ -1,0 +1,26 @@
+//! Laws on documents. These functions do nothing: what they ensure is the law.
+ghost use Rattle.std.specs.Prelude.{◌≡◌, ℕ, List};
+ghost use Rattle.ipa_reader.specs.Documents.{ReadsAs, IsRefused};
+ghost use Rattle.ipa_reader.specs.Setups.{IsSetup, IsKept};
+ghost use Rattle.ipa_reader.specs.declared.document.Document.{Document};
+ghost use Rattle.ipa_reader.specs.declared.document.Setup.{Setup};
+ghost use Rattle.ipa_reader.specs.declared.refusals.DocKind.{DocKind};
+
+use ipa_forms::one_form;
+use ipa_text::one_cut;
+
+/// A text reads as one document, or is refused with one line and one kind, and never both.
+pub fn one_reading()
+    ensures documents { (bytes : List ℕ) (document other : Document) → ReadsAs bytes document → ReadsAs bytes other → document ≡ other }
+    ensures refusals { (bytes : List ℕ) (line other : ℕ) (kind another : DocKind) → IsRefused bytes line kind → IsRefused bytes other another → (line ≡ other) × (kind ≡ another) }
+    ensures apart { (bytes : List ℕ) (document : Document) (line : ℕ) (kind : DocKind) → ReadsAs bytes document → IsRefused bytes line kind → ⊥ }
+{
+    one_cut();
+    one_form();
+}
+
+/// What documents and setups keep by their types.
+pub fn kept_by_type()
+    ensures setup { (s : Setup) → IsSetup s.universe.sizes s.elements s.replicas s.sessions }
+    ensures base { (d : Document) → IsKept d.spec d.setup.universe.sizes d.setup.base }
+{}
