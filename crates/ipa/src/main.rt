@@ -1,0 +1,57 @@
+//! The program `ipa`: which operations of an application can break an invariant together.
+//!
+//! `check` reads a document from standard input and prints `accepted`, or the report of all conflicts and unsafe
+//! drops, or the line of a refusal. `check_command` is that command over any source and sink: its answer is the
+//! verdict on the bytes that the source held, and each fault that it answers in place of it has its cause.
+//! `ipa_main` picks the command by the words. The program ends with the number of the answered status.
+//!
+//! ```
+//! ipa check < examples/exclusive_cup.ipa
+//! ```
+#![tactic(auto)]
+
+mod checking;
+mod commands;
+mod judging;
+mod status;
+
+pub use checking::check_command;
+pub use commands::ipa_main;
+pub use status::Status;
+
+#[cfg(test)]
+mod tests;
+
+use ipa_base::{ReaderSource, WriterSink};
+use std::alloc::AllocError;
+use std::process::ExitCode;
+use std::rt::Env;
+use std::thread::Threads;
+use std::{env, io};
+
+/// The words behind the program's own name. Words that are not UTF-8 match no row of the table of commands, as no
+/// words do.
+fn words_given<R: Env + AllocGlobal>(rt: &R) -> Result<Vec<String>, AllocError> {
+    match env::args(rt) {
+        Ok(words) => words.skip(1).collect(rt.alloc()),
+        Err(error) if error.kind() == io::ErrorKind::OutOfMemory => Err(AllocError),
+        Err(_) => Ok(Vec::new(rt.alloc())),
+    }
+}
+
+/// The status of the command that the words name, over standard input and standard output.
+fn run<R>(rt: &R) -> Status
+where
+    R: Env + Input + Print + AllocGlobal + Threads + Sync,
+{
+    let Ok(words) = words_given(rt) else {
+        return Status::NoMemory;
+    };
+    let mut source = ReaderSource::new(rt.reader());
+    let mut sink = WriterSink::new(io::writer(rt));
+    ipa_main(rt, rt.alloc(), &words, &mut source, &mut sink)
+}
+
+fn main(rt: HostRuntime) -> ExitCode {
+    ExitCode::from(run(&rt).number())
+}

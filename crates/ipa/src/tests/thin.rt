@@ -1,0 +1,133 @@
+//! Small specifications over one element, with what is printed of them, worked out by hand.
+use super::documents::{Row, accepted, rejected};
+
+/// A clause of one literal, of a fact and its opposite, an operation that adds and removes one fact,
+/// a need that its own effects touch, and an action without which a literal cannot be lost.
+pub fn thin_rows() -> [Row; 6] {
+    [
+        accepted("an add that no kept state has", FORBIDDEN),
+        accepted("a fact beside its opposite", OPPOSITES),
+        rejected("an add beside a remove of one fact", FLIP, FLIP_REPORT),
+        rejected("a need that its own effects touch", TOUCHED, TOUCHED_REPORT),
+        accepted("a literal that nothing makes false", UNFALSIFIED),
+        rejected(
+            "one that a third operation makes false",
+            FALSIFIED,
+            FALSIFIED_REPORT,
+        ),
+    ]
+}
+
+const FORBIDDEN: &str = "\
+sort x
+pred a(x) addwins
+clause k(v:x): not a(v)
+op add_a(v:x)
+add a(v)
+";
+
+const OPPOSITES: &str = "\
+sort x
+pred a(x) addwins
+clause k(v:x): a(v) or not a(v)
+op add_a(v:x)
+add a(v)
+op del_a(v:x)
+del a(v)
+";
+
+const FLIP: &str = "\
+sort x
+pred a(x) addwins
+pred b(x) addwins
+clause ex(v:x): not a(v) or not b(v)
+op flip(v:x)
+add a(v)
+del a(v)
+op set_b(v:x)
+add b(v)
+";
+
+const FLIP_REPORT: &str = "\
+conflict flip(x#1) set_b(x#1) breaks ex(x#1)
+  after left: a(x#1)
+  after right: b(x#1)
+  lost: not b(x#1)
+  hidden: none
+conflict set_b(x#1) flip(x#1) breaks ex(x#1)
+  after left: b(x#1)
+  after right: a(x#1)
+  lost: not a(x#1)
+  hidden: none
+conflicts 2, unsafe drops 0
+";
+
+const TOUCHED: &str = "\
+sort x
+pred a(x) addwins
+pred b(x) addwins
+clause ex(v:x): not a(v) or not b(v)
+op begin(v:x)
+add a(v)
+op finish(v:x)
+need a(v)
+del a(v)
+add b(v)
+";
+
+const TOUCHED_REPORT: &str = "\
+conflict begin(x#1) finish(x#1) breaks ex(x#1)
+  after left: a(x#1)
+  after right: b(x#1)
+  lost: not b(x#1)
+  hidden: a(x#1)
+conflict finish(x#1) begin(x#1) breaks ex(x#1)
+  after left: b(x#1)
+  after right: a(x#1)
+  lost: not a(x#1)
+  hidden: a(x#1)
+conflicts 2, unsafe drops 0
+";
+
+const UNFALSIFIED: &str = "\
+sort x
+pred a(x) addwins
+pred b(x) remwins
+clause k(v:x): not a(v) or not b(v)
+op set_a(v:x)
+add a(v)
+op clear_a(v:x)
+del a(v)
+";
+
+const FALSIFIED: &str = "\
+sort x
+pred a(x) addwins
+pred b(x) remwins
+clause k(v:x): not a(v) or not b(v)
+op set_a(v:x)
+add a(v)
+op clear_a(v:x)
+del a(v)
+op set_b(v:x)
+add b(v)
+";
+
+const FALSIFIED_REPORT: &str = "\
+conflict set_a(x#1) set_a(x#1) breaks k(x#1)
+  after left: a(x#1)
+  after right: a(x#1)
+  lost: not b(x#1)
+  hidden: none
+conflict set_a(x#1) set_b(x#1) breaks k(x#1)
+  after left: a(x#1)
+  after right: b(x#1)
+  lost: not b(x#1)
+  hidden: none
+conflict set_b(x#1) set_a(x#1) breaks k(x#1)
+  after left: b(x#1)
+  after right: a(x#1)
+  lost: not a(x#1)
+  hidden: none
+conflicts 3, unsafe drops 0
+";
