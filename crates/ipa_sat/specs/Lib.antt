@@ -3,3 +3,4 @@ pub mod Plain
 pub mod Search
 pub mod Trail
 pub mod Turns
+pub mod Watching
