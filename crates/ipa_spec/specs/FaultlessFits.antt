@@ -1,7 +1,13 @@
 -- A faultless specification is fit.
 --
+--   none_there             where the first of a list is not there, none is
+--   fault_if-None          a fault that is not there
 --   kinds_of-faultless     no kind of fault stands in a faultless specification
 --   limits_of-faultless    no limit is passed in it
+--   NotFound, not_found    what is not found is not at the head, nor in the rest
+--   above-map              no count is above the greatest allowed
+--   SpecificationParts s   no part has a fault of any kind, and no two parts of a kind have one name
+--   parts_of-faultless     so it is in a faultless specification
 --   IsFit-from_faultless   it is fit
 use Rattle.std.proofs.Common.{◌≡◌, ℕ, ◌<◌, ◌≤◌, Bool, true, false, ◌||◌, cond, leb, List, [], ◌∷◌, length, map, take, Option, Some, None, refl, sym, ap, ◌∙◌, subst, arith, zero, suc}
 use Rattle.std.specs.List.{list_any, slice_get, slice_index}
@@ -10,7 +16,7 @@ use Rattle.std.proofs.lemmas.Bool.{or_parts, ltb-false, leb-false}
 use Rattle.std.proofs.lemmas.Option.{slice_get-map, same_Some, get_or_from_slice_get, slice_get_within}
 use Rattle.std.proofs.lemmas.List.{length-map, length-take}
 use Rattle.ipa_spec.specs.Actions.{effects_of, needs_of, sorts_of, sorts_of_vars, place_sorts, drop_effect}
-use Rattle.ipa_spec.specs.Faults.{specification_has, names_have, predicate_has, clause_has, operation_has, bound_has, variables_have, literal_has, effect_has, bound_places_have, bound_adds, undeclared_has}
+use Rattle.ipa_spec.specs.Faults.{has_repeat, specification_has, names_have, predicate_has, clause_has, operation_has, bound_has, variables_have, literal_has, effect_has, bound_places_have, bound_adds, undeclared_has}
 use Rattle.ipa_spec.specs.Limits.{fault_of, first_limit, first_there, fault_if, above, faults_found, limits_passed, IsFaultless}
 use Rattle.ipa_spec.specs.Fits.{LiteralFits, EffectFits, IsFit}
 use Rattle.ipa_spec.specs.declared.faults.FaultKind.{FaultKind}
@@ -31,19 +37,19 @@ use Rattle.ipa_spec.specs.declared.operations.Action.TheVariants.{Op, Drop}
 use Rattle.ipa_spec.specs.declared.bounds.Bound.{Bound}
 
 -- where the first of a list is not there, none of them is
-none_there : (options : List (Option SpecFault)) → first_there options ≡ None →
+pub none_there : (options : List (Option SpecFault)) → first_there options ≡ None →
     (n : ℕ) (o : Option SpecFault) → slice_get options n ≡ Some o → o ≡ None
 none_there [] h n o e = cc
 none_there (None ∷ rest) h zero o e = sym (same_Some _ _ e)
 none_there (None ∷ rest) h (suc n) o e = none_there rest h n o e
 none_there (Some found ∷ rest) h n o e = cc
 
-fault_if-None : (found : Bool) (named : SpecFault) → fault_if found named ≡ None → found ≡ false
+pub fault_if-None : (found : Bool) (named : SpecFault) → fault_if found named ≡ None → found ≡ false
 fault_if-None false named h = refl
 fault_if-None true named h = cc
 
 -- no kind of fault stands in a faultless specification
-kinds_of-faultless : (s : Specification) → IsFaultless s → (k : FaultKind) →
+pub kinds_of-faultless : (s : Specification) → IsFaultless s → (k : FaultKind) →
     specification_has k s ≡ false
 unfolding fault_of
 kinds_of-faultless s h kind.Arity =
@@ -60,18 +66,18 @@ kinds_of-faultless s h kind.FreeVariable =
     fault_if-None _ fault.FreeVariable (none_there (faults_found s) h.none 5 _ refl)
 
 -- no limit is passed in a faultless specification
-limits_of-faultless : (s : Specification) → IsFaultless s → (n : ℕ) (o : Option SpecFault) →
+pub limits_of-faultless : (s : Specification) → IsFaultless s → (n : ℕ) (o : Option SpecFault) →
     slice_get (limits_passed s) n ≡ Some o → o ≡ None
 unfolding fault_of first_limit
 limits_of-faultless s h n o e =
     none_there (limits_passed s) (none_there (faults_found s) h.none 6 _ refl) n o e
 
 -- what is not found is not at the head, nor in the rest
-record NotFound {X Y : Type 0} (here : Bool) (of : X → Y) (others : Option X) : Type 0 where
-  head : here ≡ false
-  rest : option_map of others ≡ None
+pub record NotFound {X Y : Type 0} (here : Bool) (of : X → Y) (others : Option X) : Type 0 where
+  pub head : here ≡ false
+  pub rest : option_map of others ≡ None
 
-not_found : {X Y : Type 0} (here : Bool) (of : X → Y) (x : X) (others : Option X) →
+pub not_found : {X Y : Type 0} (here : Bool) (of : X → Y) (x : X) (others : Option X) →
     option_map of (cond here (Some x) others) ≡ None → NotFound here of others
 not_found true of x others h = cc
 not_found false of x others h = record { head = refl; rest = h }
@@ -89,7 +95,7 @@ above-None which most (c ∷ cs) h (suc n) count e =
     above-None which most cs head.rest n count e
 
 -- the same of what is counted of each item
-above-map : {X : Type 0} (which most : ℕ) (of : X → ℕ) (xs : List X) →
+pub above-map : {X : Type 0} (which most : ℕ) (of : X → ℕ) (xs : List X) →
     above which most (map of xs) ≡ None → (n : ℕ) (x : X) → slice_get xs n ≡ Some x → of x ≤ most
 above-map which most of xs h n x e =
     above-None which most (map of xs) h n (of x) (slice_get-map of xs n ∙ ap (option_map of) e)
@@ -157,15 +163,20 @@ bound_parts s b h = record {
       (h k)).1;
 }
 
--- the parts of a specification have no fault where it has none
-record SpecificationParts (s : Specification) : Type 0 where
-  predicates : (n : ℕ) (p : Predicate) → slice_get s.predicates n ≡ Some p → (k : FaultKind) →
+-- the parts of a specification have no fault where it has none, and no two of a kind have one name
+pub record SpecificationParts (s : Specification) : Type 0 where
+  pub sort_names : has_repeat (λ name. name) s.sorts ≡ false
+  pub predicate_names : has_repeat (λ p. p.name) s.predicates ≡ false
+  pub clause_names : has_repeat (λ c. c.name) s.clauses ≡ false
+  pub operation_names : has_repeat (λ o. o.name) s.operations ≡ false
+  pub bound_names : has_repeat (λ b. b.name) s.bounds ≡ false
+  pub predicates : (n : ℕ) (p : Predicate) → slice_get s.predicates n ≡ Some p → (k : FaultKind) →
       predicate_has k s p ≡ false
-  clauses : (n : ℕ) (c : Clause) → slice_get s.clauses n ≡ Some c → (k : FaultKind) →
+  pub clauses : (n : ℕ) (c : Clause) → slice_get s.clauses n ≡ Some c → (k : FaultKind) →
       clause_has k s c ≡ false
-  operations : (n : ℕ) (o : Operation) → slice_get s.operations n ≡ Some o → (k : FaultKind) →
+  pub operations : (n : ℕ) (o : Operation) → slice_get s.operations n ≡ Some o → (k : FaultKind) →
       operation_has k s o ≡ false
-  bounds : (n : ℕ) (b : Bound) → slice_get s.bounds n ≡ Some b → (k : FaultKind) →
+  pub bounds : (n : ℕ) (b : Bound) → slice_get s.bounds n ≡ Some b → (k : FaultKind) →
       bound_has k s b ≡ false
 
 specification_parts : (s : Specification) → ((k : FaultKind) → specification_has k s ≡ false) →
@@ -187,12 +198,33 @@ specification_parts s h =
     let split1 =
     λ (k : FaultKind). or_parts (names_have k s) (list_any (predicate_has k s) s.predicates)
     (split2 k).0 in
+    let names4 =
+    or_parts (((has_repeat (λ name. name) s.sorts || has_repeat (λ p. p.name) s.predicates)
+    || has_repeat (λ c. c.name) s.clauses) || has_repeat (λ o. o.name) s.operations)
+    (has_repeat (λ b. b.name) s.bounds) (split1 kind.Duplicate).0 in
+    let names3 =
+    or_parts ((has_repeat (λ name. name) s.sorts || has_repeat (λ p. p.name) s.predicates)
+    || has_repeat (λ c. c.name) s.clauses) (has_repeat (λ o. o.name) s.operations) names4.0 in
+    let names2 =
+    or_parts (has_repeat (λ name. name) s.sorts || has_repeat (λ p. p.name) s.predicates)
+    (has_repeat (λ c. c.name) s.clauses) names3.0 in
+    let names1 =
+    or_parts (has_repeat (λ name. name) s.sorts) (has_repeat (λ p. p.name) s.predicates) names2.0 in
     record {
+      sort_names = names1.0;
+      predicate_names = names1.1;
+      clause_names = names2.1;
+      operation_names = names3.1;
+      bound_names = names4.1;
       predicates = λ n p e k. list_any-false (predicate_has k s) s.predicates (split1 k).1 n p e;
       clauses = λ n c e k. list_any-false (clause_has k s) s.clauses (split2 k).1 n c e;
       operations = λ n o e k. list_any-false (operation_has k s) s.operations (split3 k).1 n o e;
       bounds = λ n b e k. list_any-false (bound_has k s) s.bounds (split4 k).1 n b e;
     }
+
+-- no part of a faultless specification has a fault, and no two of a kind have one name
+pub parts_of-faultless : (s : Specification) → IsFaultless s → SpecificationParts s
+parts_of-faultless s h = specification_parts s (kinds_of-faultless s h)
 
 -- the predicates of a faultless specification have at most three places
 arities_fit : (s : Specification) → IsFaultless s → AritiesFit s.predicates
@@ -322,7 +354,7 @@ effects_fit s h parts (Drop n) k e is =
 -- a faultless specification is fit
 pub IsFit-from_faultless : (s : Specification) → IsFaultless s → IsFit s
 IsFit-from_faultless s h =
-    let parts = specification_parts s (kinds_of-faultless s h) in
+    let parts = parts_of-faultless s h in
     let short = arities_fit s h in
     record {
       sort_count = above-None 1 8 (length s.sorts ∷ []) (limits_of-faultless s h 0 _ refl) 0 _ refl;

@@ -1,6 +1,7 @@
 -- What is found in lists, and what isn't.
 --
 --   list_any-false   none of the items passes the test
+--   none_of          where none does, no item passes it
 --   map_at           what is mapped at a place
 --   take_at, at_take what stands at a place among the first
 --   declared         what is found, where it must be
@@ -9,7 +10,7 @@
 use Rattle.std.proofs.Common.{◌≡◌, ℕ, ◌<◌, Bool, true, false, List, [], ◌∷◌, map, take, Option, Some, None, refl, subst, arith, zero, suc}
 use Rattle.std.specs.List.{list_any, slice_get}
 use Rattle.std.specs.Option.{option_map_or}
-use Rattle.std.proofs.lemmas.Bool.{or_parts}
+use Rattle.std.proofs.lemmas.Bool.{or_parts, or_from}
 use Rattle.std.proofs.lemmas.Option.{same_Some}
 
 -- none of the items passes the test
@@ -20,6 +21,13 @@ list_any-false test (y ∷ ys) h zero x e =
     let same : y ≡ x = same_Some _ _ e in
     subst (λ z. test z ≡ false) same (or_parts _ _ h).0
 list_any-false test (y ∷ ys) h (suc n) x e = list_any-false test ys (or_parts _ _ h).1 n x e
+
+-- where none of the items passes the test, no item passes it
+pub none_of : {X : Type 0} (test : X → Bool) (xs : List X) →
+    ((n : ℕ) (x : X) → slice_get xs n ≡ Some x → test x ≡ false) → list_any test xs ≡ false
+none_of test [] h = refl
+none_of test (x ∷ xs) h =
+    or_from (test x) (list_any test xs) (h 0 x refl) (none_of test xs (λ n y e. h (suc n) y e))
 
 -- what is mapped at a place
 pub map_at : {X Y : Type 0} (of : X → Y) (xs : List X) (k : ℕ) (y : Y) →

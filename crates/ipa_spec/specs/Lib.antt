@@ -6,5 +6,6 @@ pub mod Limits
 pub mod Variables
 pub mod Fits
 pub mod FoundLaws
+pub mod NameLaws
 pub mod PartsFit
 pub mod FaultlessFits

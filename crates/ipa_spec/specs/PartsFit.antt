@@ -1,5 +1,6 @@
 -- A part without a fault fits.
 --
+--   some_place-false                       no place has what none of the three has
 --   atom_fits, literal_fits, effect_fits   of the parts of clauses and actions
 --   drop_effect_fits                       of the remove of a dropped fact
 use Rattle.std.proofs.Common.{◌≡◌, ◌==◌, ℕ, ◌<◌, ◌≤◌, Bool, true, false, not, ◌&&◌, ◌||◌, cond, ltb, leb, List, [], ◌∷◌, length, take, Option, Some, None, refl, sym, ap, ◌∙◌, subst, arith, get_or, zero, suc, inl, inr}
@@ -24,7 +25,7 @@ use Rattle.ipa_spec.specs.declared.operations.Effect.{Effect}
 use Rattle.ipa_spec.specs.declared.bounds.Bound.{Bound}
 
 -- a place of an atom, an effect or a fact
-some_place-false : (p : ℕ → Bool) → some_place p ≡ false → (k : ℕ) → k < 3 → p k ≡ false
+pub some_place-false : (p : ℕ → Bool) → some_place p ≡ false → (k : ℕ) → k < 3 → p k ≡ false
 some_place-false p h zero l = (or_parts _ _ (or_parts _ _ h).0).0
 some_place-false p h (suc zero) l = (or_parts _ _ (or_parts _ _ h).0).1
 some_place-false p h (suc (suc zero)) l = (or_parts _ _ h).1
