@@ -1,5 +1,6 @@
 -- Facts that stay, and facts that a remove takes.
 use Rattle.std.proofs.Common.{◌≡◌, Bool, true, false, not, ◌&&◌, ◌||◌, List, [], ◌∷◌, ◌++◌, refl, sym, ◌∙◌, ap}
+use Rattle.std.proofs.Math.Bool.{or_self}
 use Rattle.std.specs.Ordering.{is_eq}
 use Rattle.ipa_logic.specs.Facts.{has, fact_cmp}
 use Rattle.ipa_logic.specs.FactLaws.{asked-same, same-turned, has-append}
@@ -27,11 +28,7 @@ module _ (taken : Fact → Bool) (x f : Fact) where
 
 -- the facts seen so far, and one more
 kept-parts : (this seen stays : Bool) → ((this && stays) || (seen && stays)) ≡ ((seen || (this || false)) && stays)
-kept-parts true true stays = or-itself stays
-  where
-    or-itself : (b : Bool) → (b || b) ≡ b
-    or-itself true = refl
-    or-itself false = refl
+kept-parts true true stays = or_self stays
 kept-parts true false true = refl
 kept-parts true false false = refl
 kept-parts false true stays = refl

@@ -1,5 +1,4 @@
 pub mod ValuesLemmas
-pub mod VariablesLemmas
 pub mod ClausesLemmas
 pub mod TestsLemmas
 pub mod ApplicationLemmas

@@ -1,5 +1,5 @@
 -- Tests and choices.
-use Rattle.std.proofs.Common.{◌≡◌, Bool, true, false, not, cond, ◌&&◌, ◌||◌, refl, sym}
+use Rattle.std.proofs.Common.{◌≡◌, Bool, true, false, not, cond, ◌&&◌, ◌||◌, refl}
 
 -- a choice of true is an or
 pub cond-true : (b x : Bool) → cond b true x ≡ (b || x)
@@ -10,9 +10,3 @@ cond-true false x = refl
 pub cond-false : (b x : Bool) → cond b false x ≡ (not b && x)
 cond-false true x = refl
 cond-false false x = refl
-
--- two tests that pass together are the same
-pub same_test : (a b : Bool) → (a ≡ true → b ≡ true) → (b ≡ true → a ≡ true) → a ≡ b
-same_test true b f g = sym (f refl)
-same_test false true f g = g refl
-same_test false false f g = refl

@@ -8,7 +8,12 @@ pub mod Acceptance
 pub mod Views
 pub mod Ranges
 pub mod Values
+pub mod OrderLaws
 pub mod FactLaws
+pub mod NextLaws
+pub mod VariableLaws
+pub mod ValueLaws
+pub mod ClauseLaws
 pub mod FitLaws
 pub mod Renaming
 pub mod RenamingLaws

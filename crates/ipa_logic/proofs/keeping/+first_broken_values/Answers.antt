@@ -1,7 +1,8 @@
 use Rattle.std.proofs.Common.{◌<◌, length, arith, sym}
 use Rattle.std.proofs.lemmas.Option.{slice_get_within}
-use Rattle.ipa_logic.proofs.ValuesLemmas.{pass-done, first-done, first-below, below-next, pass-all, partial-next}
-use Rattle.ipa_logic.proofs.VariablesLemmas.{variables-past, variable-at}
+use Rattle.ipa_logic.specs.VariableLaws.{variables-past, variable-at}
+use Rattle.ipa_logic.specs.ValueLaws.{partial-next}
+use Rattle.ipa_logic.proofs.ValuesLemmas.{pass-done, first-done, first-below, below-next, pass-all}
 use Rattle.ipa_logic.proofs.keeping.+first_broken_values.Goals as goal
 
 pub returns-then-holds_instance : goal.returns-then-holds_instance

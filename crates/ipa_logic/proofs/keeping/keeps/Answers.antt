@@ -1,13 +1,8 @@
-use Rattle.std.proofs.Common.{◌≡◌, ℕ, ◌<◌, ◌≤◌, List, length, Some, slice_get, get_or, arith, sym, refl, ◌∙◌, subst, ap}
-use Rattle.std.proofs.lemmas.Option.{slice_get_read}
-use Rattle.ipa_spec.specs.declared.clauses.Clause.{Clause}
+use Rattle.std.proofs.Common.{◌≡◌, ◌≤◌, length, arith, ◌∙◌, ap}
 use Rattle.ipa_spec.specs.FaultlessFits.{IsFit-from_faultless}
-use Rattle.ipa_logic.proofs.ClausesLemmas.{keep-next, keep-first, keep-all}
+use Rattle.ipa_logic.specs.ClauseLaws.{clause_at, keep-all}
+use Rattle.ipa_logic.proofs.ClausesLemmas.{keep-passed, first-failed}
 use Rattle.ipa_logic.proofs.keeping.keeps.Goals as goal
-
--- the clause at an index of the loop
-clause_at : (items clauses : List Clause) (i : ℕ) (c : Clause) → items ≡ clauses → i < length items → c ≡ get_or items i c → slice_get clauses i ≡ Some c
-clause_at items clauses i c e l at = subst (λ (xs : List Clause). slice_get xs i ≡ Some c) e (slice_get_read items (length items) i c refl l at)
 
 pub first_broken_values-requires-clause-short : goal.first_broken_values-requires-clause-short
 first_broken_values-requires-clause-short c = (IsFit-from_faultless _ c.clauses.ensures.faultless).variable_count _ _ (clause_at _ _ _ _ (c.as_slice-clause-items.ensures ∙ c.clauses.ensures.value) (omega arith) c.clause-item.is)
@@ -19,10 +14,10 @@ overflow_cast-result c =
     omega arith
 
 pub returns-in-Some : goal.returns-in-Some
-returns-in-Some c = keep-first _ _ _ _ _ _ _ (sym (clause_at _ _ _ _ (c.as_slice-clause-items.ensures ∙ c.clauses.ensures.value) (omega arith) c.clause-item.is)) c.loop-number.invariant c.in-Some.ensures
+returns-in-Some c = first-failed _ _ _ _ _ _ _ (clause_at _ _ _ _ (c.as_slice-clause-items.ensures ∙ c.clauses.ensures.value) (omega arith) c.clause-item.is) c.loop-number.invariant c.in-Some.ensures
 
 pub loop-number-preserved : goal.loop-number-preserved
-loop-number-preserved c = keep-next _ _ _ _ _ _ (sym (clause_at _ _ _ _ (c.as_slice-clause-items.ensures ∙ c.clauses.ensures.value) (omega arith) c.clause-item.is)) c.loop-number.invariant c.in_default.ensures
+loop-number-preserved c = keep-passed _ _ _ _ _ _ (clause_at _ _ _ _ (c.as_slice-clause-items.ensures ∙ c.clauses.ensures.value) (omega arith) c.clause-item.is) c.loop-number.invariant c.in_default.ensures
 
 pub returns : goal.returns
 returns c = keep-all _ _ _ _ (let same : length c.as_slice-clause-items.result.now ≡ length c.args.spec.now.clauses = ap length (c.as_slice-clause-items.ensures ∙ c.clauses.ensures.value) in omega arith) c.loop-number.invariant

@@ -1,5 +1,5 @@
 use Rattle.ipa_logic.specs.Facts.{has}
-use Rattle.ipa_logic.proofs.ClausesLemmas.{KeepBelow}
+use Rattle.ipa_logic.specs.ClauseLaws.{KeepBelow}
 use Rattle.ipa_logic.proofs.keeping.keeps.Given as goal
 
 abbrev pub invariant-loop-number : goal.invariant-loop-number

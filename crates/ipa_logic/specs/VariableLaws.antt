@@ -1,4 +1,8 @@
--- Variables and their sorts.
+-- Laws of variables and their sorts.
+--
+--   slice_get_none    no item stands past the end
+--   variables-past    no variable stands past the last sort
+--   variable-at       the sort of a variable
 use Rattle.std.proofs.Common.{◌≡◌, ℕ, ◌≤◌, List, length, Some, None, slice_get, sym, ap, ◌∙◌, inl, inr}
 use Rattle.std.specs.Option.{option_map}
 use Rattle.std.proofs.lemmas.Option.{slice_get-map, slice_get_cases}
