@@ -1,41 +1,30 @@
 -- The choice of the group of least key.
 use Rattle.std.proofs.Common.{◌≡◌, ℕ, ◌<◌, Bool, true, false, cond, ◌||◌, ◌&&◌, ◌==◌, ◌↔◌, List, [], ◌∷◌, length, filter, find, Option, None, Some, refl, sym, ◌∙◌, ap, subst, arith, ◌⊎◌, inl, inr}
-use Rattle.std.proofs.lemmas.Bool.{cases_lt, cases_Bool, and_parts, false≢true}
+use Rattle.std.proofs.lemmas.Bool.{cases_lt, and_parts, or_right, false≢true}
 use Rattle.std.proofs.lemmas.Map.Lookups.{exact_bytes}
 use Rattle.std.specs.Option.{MatchOption}
-use Rattle.std.specs.Ordering.{nat_cmp, is_lt, is_eq}
-use Rattle.std.specs.Cmp.{tied_itself, Equal-is}
+use Rattle.std.specs.Ordering.{nat_cmp, is_eq}
+use Rattle.std.specs.Cmp.{Equal-is}
 use Rattle.std.specs.Cmp.Lexicographic.{slice_cmp, nat_list_cmp_total}
 use Rattle.ipa_spec.specs.declared.bounds.Bound.{Bound}
 use Rattle.ipa_logic.specs.Facts.{fact_cmp, has}
 use Rattle.ipa_logic.specs.FactLaws.{same_fact, fact_itself}
+use Rattle.ipa_logic.specs.OrderLaws.{lt-itself, lt-through}
+use Rattle.ipa_logic.specs.Views.{is_left}
 use Rattle.ipa_logic.specs.Groups.{key_of, is_in_group, group_of}
 use Rattle.ipa_logic.specs.DueDrops.{Exceeds, IsWithin, IsLeastOver}
 use Rattle.ipa_logic.specs.declared.facts.Fact.{Fact}
-use Rattle.ipa_bounds.specs.Applied.{is_left}
 use Rattle.ipa_bounds.specs.Walks.{facts_after}
 use Rattle.ipa_bounds.specs.Choices.{comes_before, first_of, LeadsExcess, IsUpTo, IsOverBest, Improves}
-use Rattle.ipa_bounds.proofs.OrderLemmas.{Less-from_lt}
 use Rattle.ipa_bounds.proofs.GroupLemmas.{group-walk}
-
--- a key does not come before itself
-pub key-itself : (k : List ℕ) → is_lt (slice_cmp nat_cmp k k) ≡ false
-key-itself k = ap is_lt (tied_itself nat_list_cmp_total k)
-
--- what does not come before a key does not come before an earlier one
-key-chain : (k f g : List ℕ) → is_lt (slice_cmp nat_cmp f g) ≡ true → is_lt (slice_cmp nat_cmp k g) ≡ false → is_lt (slice_cmp nat_cmp k f) ≡ false
-key-chain k f g l n = elim (cases_Bool (is_lt (slice_cmp nat_cmp k f))) [
-  | inl earlier ↦ absurd (false≢true (sym n ∙ ap is_lt (nat_list_cmp_total.trans k f g (Less-from_lt _ earlier) (Less-from_lt _ l))))
-  | inr not_earlier ↦ not_earlier
-]
 
 -- the fact is chosen
 pub better-new : (b : Bound) (state : List Fact) (best : Option Fact) (f : Fact) → comes_before b f best ≡ true → LeadsExcess b state f → Improves b state best f (Some f)
-better-new b state best f l e = record { over = λ _. e.over; own = λ _. key-itself (key_of b f); others = others best l }
+better-new b state best f l e = record { over = λ _. e.over; own = λ _. lt-itself nat_list_cmp_total (key_of b f); others = others best l }
   where
     others : (best : Option Fact) → comes_before b f best ≡ true → (key : List ℕ) → IsUpTo b best key → IsUpTo b (Some f) key
     others None l key h = absurd h
-    others (Some g) l key h = key-chain key (key_of b f) (key_of b g) l h
+    others (Some g) l key h = lt-through nat_list_cmp_total key (key_of b f) (key_of b g) l h
 
 -- the key of a fact of a group
 pub key-in_group : (b : Bound) (key : List ℕ) (f : Fact) → is_in_group b key f ≡ true → key_of b f ≡ key
@@ -46,18 +35,14 @@ found-filtered : (r q : Fact → Bool) (s : List Fact) (f : Fact) → find r (fi
 found-filtered r q [] f e = absurd (let no : None ≡ Some f = e in cc)
 found-filtered r q (x ∷ xs) f e = here (q x) (r x) refl e (found-filtered r q xs f)
   where
-    after : (b : Bool) → has xs f ≡ true → (b || has xs f) ≡ true
-    after true h = refl
-    after false h = h
-
     here : (a b : Bool) → q x ≡ a → find r (cond a (x ∷ filter q xs) (filter q xs)) ≡ Some f
         → (find r (filter q xs) ≡ Some f → (q f ≡ true) × (has xs f ≡ true)) → (q f ≡ true) × (has (x ∷ xs) f ≡ true)
-    here false b k e rest = let more = rest e in (more.0, after (is_eq (fact_cmp f x)) more.1)
+    here false b k e rest = let more = rest e in (more.0, or_right (is_eq (fact_cmp f x)) (has xs f) more.1)
     here true b k e rest = met (r x) e
       where
         met : (b : Bool) → cond b (Some x) (find r (filter q xs)) ≡ Some f → (q f ≡ true) × (has (x ∷ xs) f ≡ true)
         met true e = let same : x ≡ f = cc in (ap q (sym same) ∙ k, ap (λ (g : Fact). is_eq (fact_cmp g x) || has xs g) (sym same) ∙ ap (λ (b : Bool). b || has xs x) (fact_itself x))
-        met false e = let more = rest e in (more.0, after (is_eq (fact_cmp f x)) more.1)
+        met false e = let more = rest e in (more.0, or_right (is_eq (fact_cmp f x)) (has xs f) more.1)
 
 -- the first of a group, where there is one
 record IsFirst (b : Bound) (key : List ℕ) (state : List Fact) : Type 0 where

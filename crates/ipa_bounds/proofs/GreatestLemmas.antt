@@ -1,19 +1,19 @@
 -- The greatest fact of a list in order is its last.
 use Rattle.std.proofs.Common.{◌≡◌, ℕ, Bool, true, false, cond, ◌||◌, List, [], ◌∷◌, filter, Option, None, Some, refl, sym, ◌∙◌, ap, subst, inl, inr}
-use Rattle.std.proofs.lemmas.Bool.{or_cases, false≢true}
+use Rattle.std.proofs.lemmas.Bool.{or_cases, or_right, false≢true}
 use Rattle.std.proofs.lemmas.List.Kept.{IsStrictlySortedBy-filter}
 use Rattle.std.specs.List.Sorted.{IsStrictlySortedBy}
 use Rattle.std.specs.Option.{MatchOption}
 use Rattle.std.specs.Ordering.{is_eq, is_le}
+use Rattle.std.specs.Cmp.{tied_itself}
 use Rattle.std.specs.declared.cmp.Ordering.{Ordering}
 use Rattle.std.specs.declared.cmp.Ordering.TheVariants.{Less, Equal, Greater}
 use Rattle.ipa_spec.specs.declared.bounds.Bound.{Bound}
 use Rattle.ipa_logic.specs.Facts.{fact_cmp, has, IsRising}
-use Rattle.ipa_logic.specs.FactLaws.{same_fact, fact_itself}
+use Rattle.ipa_logic.specs.FactLaws.{fact_cmp_total, same_fact, fact_itself}
 use Rattle.ipa_logic.specs.Groups.{is_in_group, group_of}
 use Rattle.ipa_logic.specs.DueDrops.{IsGreatest}
 use Rattle.ipa_logic.specs.declared.facts.Fact.{Fact}
-use Rattle.ipa_bounds.proofs.OrderLemmas.{fact_cmp_total}
 
 -- the last of the facts, or the one before them
 pub last_of : Option Fact → List Fact → Option Fact
@@ -21,12 +21,7 @@ last_of before [] = before
 last_of before (x ∷ xs) = last_of (Some x) xs
 
 le-itself : (f : Fact) → is_le (fact_cmp f f) ≡ true
-le-itself f = equal (fact_cmp f f) (fact_itself f)
-  where
-    equal : (r : Ordering) → is_eq r ≡ true → is_le r ≡ true
-    equal Less h = refl
-    equal Equal h = refl
-    equal Greater h = h
+le-itself f = ap is_le (tied_itself fact_cmp_total f)
 
 -- below a fact that is at most another
 le-chain : (f g h : Fact) → fact_cmp f g ≡ Less → is_le (fact_cmp g h) ≡ true → is_le (fact_cmp f h) ≡ true
@@ -49,16 +44,12 @@ greatest-last x [] r g e = let same : x ≡ g = cc in subst (IsGreatest (x ∷ [
     only true f k h = subst (λ (y : Fact). is_le (fact_cmp y x) ≡ true) (sym (same_fact f x k)) (le-itself x)
     only false f k h = absurd (false≢true h)
 greatest-last x (y ∷ ys) r g e = let rest = greatest-last y ys r.1 g e in record {
-  among = or-after (is_eq (fact_cmp g x)) (has (y ∷ ys) g) rest.among;
+  among = or_right (is_eq (fact_cmp g x)) (has (y ∷ ys) g) rest.among;
   greatest = λ f h. elim (or_cases (is_eq (fact_cmp f x)) (has (y ∷ ys) f) h) [
     | inl same ↦ subst (λ (z : Fact). is_le (fact_cmp z g) ≡ true) (sym (same_fact f x same)) (le-chain x y g r.0.0 (rest.greatest y (ap (λ (b : Bool). b || has ys y) (fact_itself y))))
     | inr among ↦ rest.greatest f among
   ];
 }
-  where
-    or-after : (a b : Bool) → b ≡ true → (a || b) ≡ true
-    or-after true b h = refl
-    or-after false b h = h
 
 last-some : (x : Fact) (xs : List Fact) → last_of (Some x) xs ≡ None → ⊥
 unfolding last_of

@@ -1,24 +1,14 @@
 -- Groups, counted along a walk.
-use Rattle.std.proofs.Common.{◌≡◌, ℕ, ◌+◌, Bool, true, false, cond, ◌&&◌, ◌==◌, List, [], ◌∷◌, length, filter, Option, Some, None, refl, sym, ◌∙◌, ap, arith}
+use Rattle.std.proofs.Common.{◌≡◌, ℕ, ◌+◌, Bool, true, false, ◌&&◌, ◌==◌, List, length, filter, Option, Some, None, refl, sym, ◌∙◌, ap, arith}
 use Rattle.std.proofs.lemmas.List.Kept.{IsStrictlySortedBy-filter}
 use Rattle.ipa_spec.specs.declared.bounds.Bound.{Bound}
 use Rattle.ipa_logic.specs.Facts.{fact_cmp, IsRising}
-use Rattle.ipa_logic.specs.Views.{next_fact}
+use Rattle.ipa_logic.specs.Views.{next_fact, is_left}
 use Rattle.ipa_logic.specs.Groups.{is_in_group, group_of}
 use Rattle.ipa_logic.specs.declared.facts.Fact.{Fact}
-use Rattle.ipa_bounds.specs.Applied.{is_left}
 use Rattle.ipa_bounds.specs.Walks.{facts_after}
+use Rattle.ipa_bounds.proofs.FilterLemmas.{filter-filter, filter-behind}
 use Rattle.ipa_bounds.proofs.WalkLemmas.{walk-some, filter-find_none}
-
--- a filter behind a weaker one
-pub filter-filter : (q r : Fact → Bool) → ((f : Fact) → q f ≡ true → r f ≡ true) → (s : List Fact) → filter q (filter r s) ≡ filter q s
-filter-filter q r h [] = refl
-filter-filter q r h (x ∷ xs) = here (q x) (r x) refl refl (filter-filter q r h xs)
-  where
-    here : (a b : Bool) → q x ≡ a → r x ≡ b → filter q (filter r xs) ≡ filter q xs → filter q (cond b (x ∷ filter r xs) (filter r xs)) ≡ cond a (x ∷ filter q xs) (filter q xs)
-    here a true e k rest = ap (λ (c : Bool). cond c (x ∷ filter q (filter r xs)) (filter q (filter r xs))) e ∙ ap (λ (t : List Fact). cond a (x ∷ t) t) rest
-    here true false e k rest = absurd (let no : true ≡ false = sym (h x e) ∙ k in cc)
-    here false false e k rest = rest
 
 -- a fact of a group is of the bound's predicate
 of-predicate : (a b : Bool) → (a && b) ≡ true → (a && true) ≡ true
@@ -28,15 +18,6 @@ of-predicate false b h = h
 -- a group is found among the facts of its predicate
 pub group-walk : (b : Bound) (key : List ℕ) (s : List Fact) → filter (is_in_group b key) (facts_after s b.predicate None) ≡ group_of b key s
 group-walk b key s = filter-filter (is_in_group b key) (λ f. (f.predicate == b.predicate) && true) (λ f h. of-predicate (f.predicate == b.predicate) _ h) s
-
--- a stronger filter behind leaves all
-filter-behind : (q r : Fact → Bool) → ((f : Fact) → q f ≡ true → r f ≡ true) → (s : List Fact) → filter r (filter q s) ≡ filter q s
-filter-behind q r h [] = refl
-filter-behind q r h (x ∷ xs) = here (q x) refl (filter-behind q r h xs)
-  where
-    here : (a : Bool) → q x ≡ a → filter r (filter q xs) ≡ filter q xs → filter r (cond a (x ∷ filter q xs) (filter q xs)) ≡ cond a (x ∷ filter q xs) (filter q xs)
-    here true e rest = ap (λ (c : Bool). cond c (x ∷ filter r (filter q xs)) (filter r (filter q xs))) (h x e) ∙ ap (λ (t : List Fact). x ∷ t) rest
-    here false e rest = rest
 
 module _ (b : Bound) (key : List ℕ) (s : List Fact) where
   -- before the first all facts of the group are left

@@ -1,4 +1,4 @@
-pub mod OrderLemmas
+pub mod FilterLemmas
 pub mod WalkLemmas
 pub mod GroupLemmas
 pub mod ChoiceLemmas

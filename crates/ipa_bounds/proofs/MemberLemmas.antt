@@ -8,10 +8,9 @@ use Rattle.std.specs.declared.cmp.Ordering.TheVariants.{Less, Equal, Greater}
 use Rattle.ipa_spec.specs.declared.bounds.Bound.{Bound}
 use Rattle.ipa_logic.specs.Facts.{fact_cmp, IsRising}
 use Rattle.ipa_logic.specs.Groups.{is_in_group, group_of}
-use Rattle.ipa_logic.specs.Views.{next_fact}
+use Rattle.ipa_logic.specs.Views.{next_fact, is_left}
 use Rattle.ipa_logic.specs.declared.facts.Fact.{Fact}
-use Rattle.ipa_bounds.specs.Applied.{is_left}
-use Rattle.ipa_bounds.proofs.OrderLemmas.{fact_cmp_total, Less-from_lt}
+use Rattle.ipa_bounds.proofs.FilterLemmas.{find-both, find-turned}
 use Rattle.ipa_bounds.proofs.WalkLemmas.{walk-some, filter-find_none}
 use Rattle.ipa_bounds.proofs.ChoiceLemmas.{key-in_group}
 
@@ -26,28 +25,6 @@ pub leap-none : (b : Bound) (key : List ℕ) (fact place f : Fact) → place.pre
     → is_in_group b key f ≡ true → is_lt (fact_cmp fact f) ≡ true → is_lt (fact_cmp place f) ≡ true
 leap-none b key fact place f e h q l = ap (λ (p : ℕ). is_lt (ordering_then (nat_cmp p f.predicate) (slice_cmp nat_cmp place.args f.args))) e
     ∙ then-lt (nat_cmp fact.predicate f.predicate) (slice_cmp nat_cmp fact.args f.args) (slice_cmp nat_cmp place.args f.args) (h f.args (key-in_group b key f q)) l
-
-pub lt-trans : (f g h : Fact) → is_lt (fact_cmp f g) ≡ true → is_lt (fact_cmp g h) ≡ true → is_lt (fact_cmp f h) ≡ true
-lt-trans f g h l m = ap is_lt (fact_cmp_total.trans f g h (Less-from_lt _ l) (Less-from_lt _ m))
-
--- the first of a filtered list
-find-both : (q r : Fact → Bool) (s : List Fact) → find q (filter r s) ≡ find (λ f. r f && q f) s
-find-both q r [] = refl
-find-both q r (x ∷ xs) = here (r x) (find-both q r xs)
-  where
-    here : (b : Bool) → find q (filter r xs) ≡ find (λ f. r f && q f) xs → find q (cond b (x ∷ filter r xs) (filter r xs)) ≡ cond (b && q x) (Some x) (find (λ f. r f && q f) xs)
-    here true e = ap (λ (o : Option Fact). cond (q x) (Some x) o) e
-    here false e = e
-
--- both ways of filtering find the same
-find-turned : (q r : Fact → Bool) (s : List Fact) → find q (filter r s) ≡ find r (filter q s)
-find-turned q r s = find-both q r s ∙ (ap (λ (t : Fact → Bool). find t s) (λ i f. and-turned (r f) (q f) i) ∙ sym (find-both r q s))
-  where
-    and-turned : (a b : Bool) → (a && b) ≡ (b && a)
-    and-turned true true = refl
-    and-turned true false = refl
-    and-turned false true = refl
-    and-turned false false = refl
 
 module _ (b : Bound) (key : List ℕ) (s : List Fact) (rising : IsRising s) where
   -- the next fact of the group is the next fact, where that is one of it

@@ -2,6 +2,7 @@
 use Rattle.std.proofs.Common.{◌≡◌, ℕ, ◌+◌, ◌<◌, ◌≤◌, ◌≢◌, Bool, true, false, cond, ◌&&◌, ◌==◌, List, [], ◌∷◌, ◌++◌, length, filter, nat_cmp, Option, None, Some, refl, sym, ◌∙◌, ap, subst, arith, inl, inr, length-append, append_assoc}
 use Rattle.std.proofs.lemmas.List.{append-nil}
 use Rattle.std.proofs.lemmas.Bool.{cases_Bool, false≢true}
+use Rattle.std.proofs.Math.Bool.{and-true}
 use Rattle.std.proofs.lemmas.List.Elements.{filter-append}
 use Rattle.std.proofs.lemmas.Map.Lookups.{exact_bytes}
 use Rattle.std.specs.Option.{MatchOption, is_some}
@@ -11,29 +12,14 @@ use Rattle.std.specs.Cmp.Lexicographic.{slice_cmp, nat_list_cmp_total}
 use Rattle.std.specs.declared.cmp.Ordering.{Ordering}
 use Rattle.std.specs.declared.cmp.Ordering.TheVariants.{Less, Equal, Greater}
 use Rattle.ipa_spec.specs.declared.bounds.Bound.{Bound}
+use Rattle.ipa_logic.specs.OrderLaws.{Less-from_lt, lt-itself, lt-from_past, lt-past}
+use Rattle.ipa_logic.specs.Views.{is_left}
 use Rattle.ipa_logic.specs.Groups.{key_of, group_of}
 use Rattle.ipa_logic.specs.DueDrops.{IsWithin, IsLeastOver}
 use Rattle.ipa_logic.specs.declared.facts.Fact.{Fact}
 use Rattle.ipa_bounds.specs.Walks.{facts_after}
 use Rattle.ipa_bounds.specs.Runs.{has_key, with_key, count_before, IsHighest, IsRun}
-use Rattle.ipa_bounds.proofs.OrderLemmas.{Less-from_lt}
-use Rattle.ipa_bounds.proofs.ChoiceLemmas.{key-itself}
-
--- a key that does not come before another, and comes before a third
-later-before : (l f k : List ℕ) → is_lt (slice_cmp nat_cmp f l) ≡ false → is_lt (slice_cmp nat_cmp f k) ≡ true → is_lt (slice_cmp nat_cmp l k) ≡ true
-later-before l f k n h = here (slice_cmp nat_cmp f l) refl n
-  where
-    here : (r : Ordering) → slice_cmp nat_cmp f l ≡ r → is_lt r ≡ false → is_lt (slice_cmp nat_cmp l k) ≡ true
-    here Less e m = absurd (false≢true (sym m))
-    here Equal e m = subst (λ (x : List ℕ). is_lt (slice_cmp nat_cmp x k) ≡ true) (exact_bytes f l e) h
-    here Greater e m = ap is_lt (nat_list_cmp_total.trans l f k (nat_list_cmp_total.antisymm l f ∙ ap ordering_reverse e) (Less-from_lt _ h))
-
--- the order of three keys
-later-later : (f l g : List ℕ) → is_lt (slice_cmp nat_cmp f l) ≡ false → is_lt (slice_cmp nat_cmp l g) ≡ false → is_lt (slice_cmp nat_cmp f g) ≡ false
-later-later f l g n m = elim (cases_Bool (is_lt (slice_cmp nat_cmp f g))) [
-  | inl before ↦ absurd (false≢true (sym m ∙ later-before l f g n before))
-  | inr not_before ↦ not_before
-]
+use Rattle.ipa_bounds.proofs.FilterLemmas.{filter-both}
 
 module _ (b : Bound) where
   -- a fact with a key after another has not that one
@@ -77,7 +63,7 @@ module _ (b : Bound) where
   -- the facts before f have no key after its own
   before-run : (seen : List Fact) (last : Option Fact) (count n : ℕ) (over : Option Fact) (f : Fact) → IsRun b seen last count over → Some n ≡ count_before b last count f → Before seen f
   before-run seen None count n over f r e = record { none_after = λ k l. ap (λ (s : List Fact). length (with_key b k s)) r.0 }
-  before-run seen (Some last) count n over f r e = record { none_after = λ k l. r.0.highest k (later-before (key_of b last) (key_of b f) k (risen last count n f e) l) }
+  before-run seen (Some last) count n over f r e = record { none_after = λ k l. r.0.highest k (lt-from_past nat_list_cmp_total (key_of b last) (key_of b f) k (risen last count n f e) l) }
 
   -- the number before f, where no group is over so far
   number-before : (seen : List Fact) (last : Option Fact) (count n : ℕ) (f : Fact) → IsRun b seen last count None → Some n ≡ count_before b last count f → n ≡ length (with_key b (key_of b f) seen)
@@ -99,8 +85,8 @@ module _ (b : Bound) where
     highest-next seen f (before-run seen last count n None f r e),
     record {
       exceeds = let here = more (key_of b f) seen f true (own-key f) in let before = number-before seen last count n f r e in omega arith;
-      least = λ k l. let here = more k seen f false (other-before k f (key_of b f) l (key-itself (key_of b f))) in let few = few-before seen last count r k in omega arith;
-      passed = key-itself (key_of b f);
+      least = λ k l. let here = more k seen f false (other-before k f (key_of b f) l (lt-itself nat_list_cmp_total (key_of b f))) in let few = few-before seen last count r k in omega arith;
+      passed = lt-itself nat_list_cmp_total (key_of b f);
     },
   )
 
@@ -136,32 +122,16 @@ module _ (b : Bound) where
   )
     where
       not_before : is_lt (slice_cmp nat_cmp (key_of b f) (key_of b over)) ≡ false
-      not_before = later-later (key_of b f) (key_of b last) (key_of b over) (risen last count n f e) r.1.passed
+      not_before = lt-past nat_list_cmp_total (key_of b f) (key_of b last) (key_of b over) (risen last count n f e) r.1.passed
 
       grown : (t : Bool) → has_key b (key_of b over) f ≡ t → b.most < length (with_key b (key_of b over) (seen ++ f ∷ []))
       grown true h = let here = more (key_of b over) seen f true h in let before = r.1.exceeds in omega arith
       grown false h = let here = more (key_of b over) seen f false h in let before = r.1.exceeds in omega arith
 
 -- a group is what has the key among the facts of its predicate
-filter-both : (p q : Fact → Bool) (s : List Fact) → filter q (filter p s) ≡ filter (λ f. p f && q f) s
-filter-both p q [] = refl
-filter-both p q (x ∷ xs) = here (p x) refl (filter-both p q xs)
-  where
-    here : (a : Bool) → p x ≡ a → filter q (filter p xs) ≡ filter (λ f. p f && q f) xs → filter q (cond a (x ∷ filter p xs) (filter p xs)) ≡ cond (a && q x) (x ∷ filter (λ f. p f && q f) xs) (filter (λ f. p f && q f) xs)
-    here true e h = ap (λ (t : List Fact). cond (q x) (x ∷ t) t) h
-    here false e h = h
-
 key-walk : (b : Bound) (key : List ℕ) (s : List Fact) → with_key b key (facts_after s b.predicate None) ≡ group_of b key s
-key-walk b key s = ap (filter (has_key b key)) (always s) ∙ filter-both (λ f. f.predicate == b.predicate) (has_key b key) s
-  where
-    and-true : (a : Bool) → (a && true) ≡ a
-    and-true true = refl
-    and-true false = refl
-
-    always : (s : List Fact) → filter (λ f. (f.predicate == b.predicate) && true) s ≡ filter (λ f. f.predicate == b.predicate) s
-    always [] = refl
-    always (x ∷ xs) = ap (λ (c : Bool). cond c (x ∷ filter (λ f. (f.predicate == b.predicate) && true) xs) (filter (λ f. (f.predicate == b.predicate) && true) xs)) (and-true (x.predicate == b.predicate))
-        ∙ ap (λ (t : List Fact). cond (x.predicate == b.predicate) (x ∷ t) t) (always xs)
+key-walk b key s = filter-both (is_left b.predicate None) (has_key b key) s
+    ∙ ap (λ (t : Fact → Bool). filter t s) (λ i f. and-true (f.predicate == b.predicate) i && has_key b key f)
 
 -- what is known at the end of the walk
 pub run-end : (b : Bound) (s seen : List Fact) (last : Option Fact) (count : ℕ) (over : Option Fact) → IsRun b seen last count over → seen ≡ facts_after s b.predicate None

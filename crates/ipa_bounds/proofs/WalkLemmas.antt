@@ -1,14 +1,16 @@
 -- The facts that are left of a walk.
 use Rattle.std.proofs.Common.{◌≡◌, ℕ, Bool, true, false, cond, ◌&&◌, ◌==◌, List, [], ◌∷◌, filter, find, Option, Some, None, refl, sym, ◌∙◌, ap, subst}
+use Rattle.std.proofs.lemmas.Bool.{and_parts, and_right}
 use Rattle.std.specs.List.{AllByRecursion}
 use Rattle.std.specs.List.Sorted.{IsStrictlySortedBy}
 use Rattle.std.specs.Ordering.{is_lt}
 use Rattle.std.specs.declared.cmp.Ordering.TheVariants.{Less}
 use Rattle.ipa_logic.specs.Facts.{fact_cmp, IsRising}
+use Rattle.ipa_logic.specs.FactLaws.{fact_cmp_total}
+use Rattle.ipa_logic.specs.OrderLaws.{lt-itself, lt-turned, lt-trans}
 use Rattle.ipa_logic.specs.Views.{is_above}
 use Rattle.ipa_logic.specs.declared.facts.Fact.{Fact}
 use Rattle.ipa_bounds.specs.Walks.{facts_after, facts_from}
-use Rattle.ipa_bounds.proofs.OrderLemmas.{lt-itself, lt-turned, lt-chain}
 
 -- no fact passes where none is found
 pub filter-find_none : (q : Fact → Bool) (s : List Fact) → find q s ≡ None → filter q s ≡ []
@@ -38,15 +40,7 @@ module _ (p : Fact → Bool) where
     where
       here : (after : Option Fact) → is_above after x ≡ true → filter (left after) ys ≡ filter (left (Some x)) ys → filter (left after) (y ∷ ys) ≡ filter (left (Some x)) (y ∷ ys)
       here None h e = ap (λ (b : Bool). cond (p y && b) (y ∷ filter (left None) ys) (filter (left None) ys)) (sym (ap is_lt a.0)) ∙ ap (λ (s : List Fact). cond (p y && is_lt (fact_cmp x y)) (y ∷ s) s) e
-      here (Some z) h e = ap (λ (b : Bool). cond (p y && b) (y ∷ filter (left (Some z)) ys) (filter (left (Some z)) ys)) (lt-chain z x y h a.0 ∙ sym (ap is_lt a.0)) ∙ ap (λ (s : List Fact). cond (p y && is_lt (fact_cmp x y)) (y ∷ s) s) e
-
-  and-right : (a b : Bool) → (a && b) ≡ true → b ≡ true
-  and-right true b h = h
-  and-right false b h = cc
-
-  and-false : (a b : Bool) → b ≡ false → (a && b) ≡ false
-  and-false true b h = h
-  and-false false b h = refl
+      here (Some z) h e = ap (λ (b : Bool). cond (p y && b) (y ∷ filter (left (Some z)) ys) (filter (left (Some z)) ys)) (lt-trans fact_cmp_total z x y h (ap is_lt a.0) ∙ sym (ap is_lt a.0)) ∙ ap (λ (s : List Fact). cond (p y && is_lt (fact_cmp x y)) (y ∷ s) s) e
 
   walk-step : (x : Fact) (xs : List Fact) (after : Option Fact) (g : Fact) → AllByRecursion (λ y. fact_cmp x y ≡ Less) xs × IsRising xs
       → (b : Bool) → left after x ≡ b → cond b (Some x) (find (left after) xs) ≡ Some g
@@ -54,10 +48,10 @@ module _ (p : Fact → Bool) where
       → cond b (x ∷ filter (left after) xs) (filter (left after) xs) ≡ g ∷ cond (left (Some g) x) (x ∷ filter (left (Some g)) xs) (filter (left (Some g)) xs)
   walk-step x xs after g r true l h rest = subst (λ (y : Fact). x ∷ filter (left after) xs ≡ y ∷ cond (left (Some y) x) (x ∷ filter (left (Some y)) xs) (filter (left (Some y)) xs))
       (let same : x ≡ g = cc in same)
-      (ap (λ (t : List Fact). x ∷ t) (left-same x after xs (and-right (p x) (is_above after x) l) r.0 ∙ ap (λ (b : Bool). cond b (x ∷ filter (left (Some x)) xs) (filter (left (Some x)) xs)) (sym (and-false (p x) _ (lt-itself x)))))
+      (ap (λ (t : List Fact). x ∷ t) (left-same x after xs (and_parts (p x) (is_above after x) l).1 r.0 ∙ ap (λ (b : Bool). cond b (x ∷ filter (left (Some x)) xs) (filter (left (Some x)) xs)) (sym (and_right (p x) _ (lt-itself fact_cmp_total x)))))
   walk-step x xs after g r false l h rest = rest h
       ∙ ap (λ (b : Bool). g ∷ cond b (x ∷ filter (left (Some g)) xs) (filter (left (Some g)) xs))
-      (sym (and-false (p x) _ (lt-turned x g (found-all (λ y. fact_cmp x y ≡ Less) (left after) xs g r.0 h))))
+      (sym (and_right (p x) _ (lt-turned fact_cmp_total x g (found-all (λ y. fact_cmp x y ≡ Less) (left after) xs g r.0 h))))
 
   -- the first of the facts that are left, and those that are left after it
   pub walk-some : (s : List Fact) (after : Option Fact) (g : Fact) → IsRising s → find (left after) s ≡ Some g → filter (left after) s ≡ g ∷ filter (left (Some g)) s

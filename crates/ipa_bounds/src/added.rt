@@ -2,9 +2,8 @@
 ghost use Rattle.std.specs.Prelude.{◌≡◌, ◌||◌, ℕ, Bool, Option};
 ghost use Rattle.ipa_spec.specs.Actions.{effects_of};
 ghost use Rattle.ipa_logic.specs.Touches.{gives, adds};
-ghost use Rattle.ipa_logic.specs.Views.{is_above};
+ghost use Rattle.ipa_logic.specs.Views.{is_above, IsNextOf};
 ghost use Rattle.ipa_logic.specs.declared.facts.Fact.{Fact as TheFact};
-ghost use Rattle.ipa_bounds.specs.Applied.{IsNextOf};
 
 use ipa_logic::{Fact, fact_given};
 use ipa_spec::{Action, Effect, Spec};

@@ -3,17 +3,18 @@ use Rattle.std.proofs.Common.{◌≡◌, ℕ, Bool, true, false, ◌||◌, List,
 use Rattle.std.proofs.lemmas.Bool.{cases_Bool, or_cases, false≢true}
 use Rattle.std.specs.Option.{MatchOption}
 use Rattle.std.specs.Ordering.{is_lt}
-use Rattle.std.specs.Cmp.Lexicographic.{slice_cmp}
+use Rattle.std.specs.Cmp.Lexicographic.{slice_cmp, nat_list_cmp_total}
 use Rattle.ipa_logic.specs.Facts.{Universe}
+use Rattle.ipa_logic.specs.OrderLaws.{Less-from_lt, lt-through, lt-past}
 use Rattle.ipa_logic.specs.Truth.{IsOver}
 use Rattle.ipa_touch.specs.Searches.{Fits, PassPinned, FirstPinned, IsUpTo, IsFailed, IsFailing, Improves, IsFirstFailing, IsEarlierOf}
-use Rattle.ipa_touch.proofs.OrderLemmas.{Less-from_lt, earlier-from_less, less-from_earlier, lt-through, lt-past}
+use Rattle.ipa_touch.proofs.OrderLemmas.{earlier-from_less, less-from_earlier}
 
 -- the earlier of two that are there
 pub earlier-second : (one other : Option (List ℕ)) (r s : List ℕ) → one ≡ Some r → other ≡ Some s → is_lt (slice_cmp nat_cmp s r) ≡ true → IsEarlierOf one other other
 earlier-second one other r s e k l = record {
   either = inr refl;
-  first = λ v h. subst (λ (o : Option (List ℕ)). IsUpTo o v) (sym k) (lt-through v s r l (subst (λ (o : Option (List ℕ)). IsUpTo o v) e h));
+  first = λ v h. subst (λ (o : Option (List ℕ)). IsUpTo o v) (sym k) (lt-through nat_list_cmp_total v s r l (subst (λ (o : Option (List ℕ)). IsUpTo o v) e h));
   second = λ v h. h;
 }
 
@@ -21,7 +22,7 @@ pub earlier-first : (one other : Option (List ℕ)) (r s : List ℕ) → one ≡
 earlier-first one other r s e k l = record {
   either = inl refl;
   first = λ v h. h;
-  second = λ v h. subst (λ (o : Option (List ℕ)). IsUpTo o v) (sym e) (lt-past v s r l (subst (λ (o : Option (List ℕ)). IsUpTo o v) k h));
+  second = λ v h. subst (λ (o : Option (List ℕ)). IsUpTo o v) (sym e) (lt-past nat_list_cmp_total v s r (subst (λ (o : Option (List ℕ)). IsUpTo o v) k h) l);
 }
 
 module _ (p : List ℕ → Bool) (universe : Universe) (sorts : List ℕ) where

@@ -1,6 +1,6 @@
 -- Literals that the first variables decide.
 use Rattle.std.proofs.Common.{◌≡◌, ℕ, Bool, true, false, not, cond, ◌&&◌, ◌||◌, ◌==◌, nat_lt, List, [], ◌∷◌, slice_index, refl, ◌∙◌, ap}
-use Rattle.std.proofs.lemmas.Bool.{and_parts, ltb-true}
+use Rattle.std.proofs.lemmas.Bool.{and_parts, or_right, ltb-true}
 use Rattle.std.specs.List.{list_any}
 use Rattle.ipa_spec.specs.Actions.{arity_of}
 use Rattle.ipa_spec.specs.declared.predicates.Predicate.{Predicate}
@@ -53,13 +53,5 @@ module _ (ps : List Predicate) (at : ℕ) (v w : List ℕ) (same : Agrees at v w
               → (list_any (λ l. is_decided ps at l && literal_true ps t w l) ls ≡ true → list_any (literal_true ps t v) ls ≡ true)
               → (literal_true ps t v l || list_any (literal_true ps t v) ls) ≡ true
           here true true d e k rest = ap (λ (b : Bool). b || list_any (literal_true ps t v) ls) (literal-decided t l d ∙ e)
-          here true false d e k rest = after (literal_true ps t v l) (rest k)
-            where
-              after : (b : Bool) → list_any (literal_true ps t v) ls ≡ true → (b || list_any (literal_true ps t v) ls) ≡ true
-              after true h = refl
-              after false h = h
-          here false b d e k rest = after (literal_true ps t v l) (rest k)
-            where
-              after : (b : Bool) → list_any (literal_true ps t v) ls ≡ true → (b || list_any (literal_true ps t v) ls) ≡ true
-              after true h = refl
-              after false h = h
+          here true false d e k rest = or_right (literal_true ps t v l) (list_any (literal_true ps t v) ls) (rest k)
+          here false b d e k rest = or_right (literal_true ps t v l) (list_any (literal_true ps t v) ls) (rest k)

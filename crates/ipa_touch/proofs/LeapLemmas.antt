@@ -1,6 +1,6 @@
 -- Leaps over elements.
 use Rattle.std.proofs.Common.{◌≡◌, ℕ, ◌<◌, ◌≤◌, Bool, true, false, not, cond, ◌&&◌, ◌||◌, List, [], ◌∷◌, slice_index, suc, zero, refl, ◌∙◌, ap, subst, arith, unwrap_or, inl, inr}
-use Rattle.std.proofs.lemmas.Bool.{cases_lt, and_parts, or_cases, lt-ltb, false≢true}
+use Rattle.std.proofs.lemmas.Bool.{cases_lt, and_parts, or_cases, or_left, or_right, lt-ltb, false≢true}
 use Rattle.std.specs.Ordering.{is_eq}
 use Rattle.ipa_spec.specs.Actions.{arity_of}
 use Rattle.ipa_spec.specs.declared.predicates.Predicate.{Predicate}
@@ -10,6 +10,7 @@ use Rattle.ipa_spec.specs.declared.operations.Arg.TheVariants.{Var as Parameter,
 use Rattle.ipa_spec.specs.declared.operations.Effect.{Effect}
 use Rattle.ipa_logic.specs.Facts.{fact_cmp}
 use Rattle.ipa_logic.specs.FactLaws.{same_fact}
+use Rattle.ipa_logic.specs.FitLaws.{three-at}
 use Rattle.ipa_logic.specs.Truth.{element_of, element_at, fact_of}
 use Rattle.ipa_logic.specs.Touches.{stands_for, arg_at, fact_given, gives, adds, removes, plain_application}
 use Rattle.ipa_logic.specs.Values.{Agrees}
@@ -26,18 +27,10 @@ module _ (at : ℕ) (values : List ℕ) where
   leaps-both p q r from middle next i j e = record {
     on = omega (arith, i.on, j.on);
     passes = λ v a ge lt. elim (cases_lt (element_of v at) middle) [
-      | inl below ↦ e v ∙ left (p v) (q v) (i.passes v a ge below)
-      | inr above ↦ e v ∙ right (p v) (q v) (j.passes v a above lt)
+      | inl below ↦ e v ∙ or_left (p v) (q v) (i.passes v a ge below)
+      | inr above ↦ e v ∙ or_right (p v) (q v) (j.passes v a above lt)
     ];
   }
-    where
-      left : (a b : Bool) → a ≡ true → (a || b) ≡ true
-      left true b h = refl
-      left false b h = absurd (false≢true h)
-
-      right : (a b : Bool) → b ≡ true → (a || b) ≡ true
-      right true b h = refl
-      right false b h = h
 
   -- under a test that is the same
   pub leaps-same : (p q : List ℕ → Bool) (from next : ℕ) → ((v : List ℕ) → q v ≡ p v) → Leaps p at values from next → Leaps q at values from next
@@ -58,13 +51,7 @@ module _ (ps : List Predicate) (a : Atom) (at place : ℕ) (free : IsFree ps a a
 
   -- the fact has it too
   free-fact : (v : List ℕ) → slice_index (fact_of ps v a).args place ≡ element_of v at
-  free-fact v = here place free.few (free-own v)
-    where
-      here : (k : ℕ) → k < 3 → element_at ps v a k ≡ element_of v at → slice_index (fact_of ps v a).args k ≡ element_of v at
-      here zero l e = e
-      here (suc zero) l e = e
-      here (suc (suc zero)) l e = e
-      here (suc (suc (suc k))) l e = absurd (omega arith)
+  free-fact v = three-at (element_at ps v a) place free.few ∙ free-own v
 
 module _ (args : List ℕ) (from next : ℕ) (some : 0 < from) (all : (k : ℕ) → from ≤ element_of args k → next ≤ element_of args k) where
   -- an element of a fact that an effect gives is leapt over by none

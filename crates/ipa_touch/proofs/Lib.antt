@@ -1,5 +1,4 @@
 pub mod PinLemmas
-pub mod VariableLemmas
 pub mod SearchLemmas
 pub mod DecidedLemmas
 pub mod OrderLemmas

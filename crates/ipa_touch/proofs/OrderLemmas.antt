@@ -1,19 +1,12 @@
 -- The order of values: by the first place where they differ, as lists are compared.
-use Rattle.std.proofs.Common.{◌≡◌, ℕ, ◌<◌, true, false, List, [], ◌∷◌, length, nat_cmp, suc, zero, refl, sym, ◌∙◌, ap, subst, arith, inl, inr}
-use Rattle.std.proofs.lemmas.Bool.{cases_Bool, false≢true}
+use Rattle.std.proofs.Common.{◌≡◌, ℕ, ◌<◌, List, [], ◌∷◌, length, nat_cmp, suc, zero, refl, ◌∙◌, ap, subst, arith}
 use Rattle.std.proofs.lemmas.Bool.Decides.{nat_tests}
-use Rattle.std.specs.Ordering.{is_lt, ordering_then, ordering_reverse}
-use Rattle.std.specs.Cmp.{tied_itself}
-use Rattle.std.specs.Cmp.Lexicographic.{slice_cmp, nat_list_cmp_total}
+use Rattle.std.specs.Ordering.{ordering_then}
+use Rattle.std.specs.Cmp.Lexicographic.{slice_cmp}
 use Rattle.std.specs.declared.cmp.Ordering.{Ordering}
 use Rattle.std.specs.declared.cmp.Ordering.TheVariants.{Less, Equal, Greater}
-use Rattle.std.proofs.lemmas.Map.Lookups.{exact_unsigned, exact_bytes}
+use Rattle.std.proofs.lemmas.Map.Lookups.{exact_unsigned}
 use Rattle.ipa_logic.specs.Truth.{element_of, IsEarlier}
-
-pub Less-from_lt : (r : Ordering) → is_lt r ≡ true → r ≡ Less
-Less-from_lt Less h = refl
-Less-from_lt Equal h = cc
-Less-from_lt Greater h = cc
 
 lt-from_Less : (x y : ℕ) → nat_cmp x y ≡ Less → x < y
 lt-from_Less x y h = grind (arith, nat_tests)
@@ -53,25 +46,3 @@ less-at (x ∷ xs) (y ∷ ys) (suc place) e s l =
 
 pub less-from_earlier : (v w : List ℕ) → length v ≡ length w → IsEarlier v w → slice_cmp nat_cmp v w ≡ Less
 less-from_earlier v w e h = less-at v w h.place e h.same h.less
-
--- values do not come before themselves
-pub lt-itself : (v : List ℕ) → is_lt (slice_cmp nat_cmp v v) ≡ false
-lt-itself v = ap is_lt (tied_itself nat_list_cmp_total v)
-
--- what does not come before the later of two does not come before the earlier
-pub lt-through : (v r s : List ℕ) → is_lt (slice_cmp nat_cmp r s) ≡ true → is_lt (slice_cmp nat_cmp v s) ≡ false → is_lt (slice_cmp nat_cmp v r) ≡ false
-lt-through v r s l n = elim (cases_Bool (is_lt (slice_cmp nat_cmp v r))) [
-  | inl before ↦ absurd (false≢true (sym n ∙ ap is_lt (nat_list_cmp_total.trans v r s (Less-from_lt _ before) (Less-from_lt _ l))))
-  | inr not_before ↦ not_before
-]
-
-pub lt-past : (v s r : List ℕ) → is_lt (slice_cmp nat_cmp s r) ≡ false → is_lt (slice_cmp nat_cmp v s) ≡ false → is_lt (slice_cmp nat_cmp v r) ≡ false
-lt-past v s r n m = elim (cases_Bool (is_lt (slice_cmp nat_cmp v r))) [
-  | inl before ↦ here (slice_cmp nat_cmp s r) refl n before
-  | inr not_before ↦ not_before
-]
-  where
-    here : (o : Ordering) → slice_cmp nat_cmp s r ≡ o → is_lt o ≡ false → is_lt (slice_cmp nat_cmp v r) ≡ true → is_lt (slice_cmp nat_cmp v r) ≡ false
-    here Less e k l = absurd (false≢true (sym k))
-    here Equal e k l = subst (λ (x : List ℕ). is_lt (slice_cmp nat_cmp v x) ≡ false) (exact_bytes s r e) m
-    here Greater e k l = absurd (false≢true (sym m ∙ ap is_lt (nat_list_cmp_total.trans v r s (Less-from_lt _ l) (nat_list_cmp_total.antisymm r s ∙ ap ordering_reverse e))))

@@ -1,47 +1,13 @@
 -- The search of values from some place on, over any test of values.
-use Rattle.std.proofs.Common.{◌≡◌, ℕ, ◌+◌, ◌<◌, ◌≤◌, ◌≢◌, Bool, true, false, List, length, refl, sym, ◌∙◌, ap, subst, arith, Option, Some, slice_get, inl, inr, get_or-set_other, get_or-set_same}
-use Rattle.std.proofs.lemmas.List.{length-set}
-use Rattle.std.proofs.lemmas.Option.{slice_get_within}
-use Rattle.std.proofs.lemmas.Bool.{cases_lt, cases_eq}
-use Rattle.std.proofs.lemmas.Grind.{same_number_lists}
+use Rattle.std.proofs.Common.{◌≡◌, ℕ, ◌+◌, ◌<◌, ◌≤◌, Bool, true, false, List, length, refl, ◌∙◌, ap, arith, Option, Some, slice_get, inl, inr}
+use Rattle.std.proofs.lemmas.Bool.{cases_lt}
 use Rattle.std.specs.List.{slice_set}
 use Rattle.ipa_logic.specs.Facts.{Universe, size_of}
 use Rattle.ipa_logic.specs.Truth.{element_of, IsOver}
 use Rattle.ipa_logic.specs.Values.{IsPartial, Agrees}
+use Rattle.ipa_logic.specs.ValueLaws.{over-done, same-done, agrees-next, agrees-before, earlier-next, not_earlier}
 use Rattle.ipa_touch.specs.Leaps.{Leaps}
 use Rattle.ipa_touch.specs.Searches.{Fits, PassPinned, FirstPinned, Covers}
-
-module _ (universe : Universe) (sorts : List ℕ) where
-  -- with a value for each variable the values are whole
-  over-done : (values : List ℕ) (place : ℕ) → IsPartial universe sorts values place → length sorts ≤ place → IsOver universe sorts values
-  over-done values place h e = record {
-    elements = λ v sort g. let w : v < length sorts = slice_get_within sorts v sort g in h.elements v sort (omega arith) g;
-    unused = λ v past. h.unused v (omega (arith, h.within));
-    width = h.width;
-  }
-
-  -- and no others agree with them
-  same-done : (values : List ℕ) (place : ℕ) → IsPartial universe sorts values place → length sorts ≤ place
-      → (v : List ℕ) → IsOver universe sorts v → Agrees place v values → v ≡ values
-  same-done values place h e v o a = same_number_lists v values (o.width ∙ sym h.width) (λ k l. elim (cases_lt k place) [
-    | inl lt ↦ a k lt
-    | inr ge ↦ o.unused k (omega arith) ∙ sym (h.unused k ge)
-  ])
-
-  -- one more variable has a value
-  pub partial-next : (values : List ℕ) (place sort x : ℕ) → IsPartial universe sorts values place → place < 4 → slice_get sorts place ≡ Some sort → x < size_of universe sort
-      → IsPartial universe sorts (slice_set values place x) (place + 1)
-  partial-next values place sort x h short g l = record {
-    within = let w : place < length sorts = slice_get_within sorts place sort g in omega arith;
-    elements = λ v other below at. elim (cases_eq v place) [
-      | inl e ↦ let same : other ≡ sort = let both : Some other ≡ Some sort = sym at ∙ (ap (slice_get sorts) e ∙ g) in (cc) in
-          let inside : place < length values = omega (arith, h.width) in
-          rw (e, get_or-set_same values place x 0 inside, same) l
-      | inr ne ↦ rw (get_or-set_other values place v x 0 ne) (h.elements v other (omega arith) at)
-    ];
-    unused = λ v past. let ne : v ≢ place = omega arith in get_or-set_other values place v x 0 ne ∙ h.unused v (omega arith);
-    width = length-set values place x ∙ h.width;
-  }
 
 module _ (p : List ℕ → Bool) (universe : Universe) (sorts : List ℕ) (pins : List (Option ℕ)) where
   -- what the search knows before it tries x in the place
@@ -56,8 +22,7 @@ module _ (p : List ℕ → Bool) (universe : Universe) (sorts : List ℕ) (pins 
     over = over-done universe sorts values place h e;
     agrees = λ k l. refl;
     fails = t;
-    earlier = λ v o f a w. let same : v ≡ values = same-done universe sorts values place h e v o a in
-        let here : element_of v w.place ≡ element_of values w.place = ap (λ (u : List ℕ). element_of u w.place) same in absurd (omega (arith, w.less));
+    earlier = λ v o f a w. absurd (not_earlier v values (same-done universe sorts values place h e v o a) w);
   }
 
   -- all values that agree so far pass
@@ -72,13 +37,6 @@ module _ (p : List ℕ → Bool) (universe : Universe) (sorts : List ℕ) (pins 
         let inside : element_of v place < size_of universe sort = o.elements place sort g in
         absurd (let covered : first ≤ element_of v place = (all v f (omega arith)).from in omega arith);
   }
-
-  -- v agrees one place further
-  agrees-next : (values v : List ℕ) (place x : ℕ) → place < length values → Agrees place v values → element_of v place ≡ x → Agrees (place + 1) v (slice_set values place x)
-  agrees-next values v place x inside a e k l = elim (cases_eq k place) [
-    | inl same ↦ rw (same, get_or-set_same values place x 0 inside) e
-    | inr ne ↦ a k (omega arith) ∙ sym (get_or-set_other values place k x 0 ne)
-  ]
 
   pub below-next : (values : List ℕ) (place x : ℕ) → place < length values → PassBelow values place x → PassPinned p universe sorts pins (slice_set values place x) (place + 1) → PassBelow values place (x + 1)
   below-next values place x inside b f = record {
@@ -101,18 +59,12 @@ module _ (p : List ℕ → Bool) (universe : Universe) (sorts : List ℕ) (pins 
       → FirstPinned p universe sorts pins (slice_set values place x) (place + 1) r → FirstPinned p universe sorts pins values place r
   first-below values place x inside b r f = record {
     over = f.over;
-    agrees = λ k l. let ne : k ≢ place = omega arith in f.agrees k (omega arith) ∙ get_or-set_other values place k x 0 ne;
+    agrees = agrees-before values r place x f.agrees;
     fails = f.fails;
-    earlier = λ v o fit a w.
-        let here : element_of r place ≡ x = f.agrees place (omega arith) ∙ get_or-set_same values place x 0 inside in
-        let before : (k : ℕ) → k < place → element_of r k ≡ element_of values k = λ k l. let ne : k ≢ place = omega arith in f.agrees k (omega arith) ∙ get_or-set_other values place k x 0 ne in
-        elim (cases_lt w.place place) [
-          | inl lt ↦ absurd (let s : element_of v w.place ≡ element_of r w.place = a w.place lt ∙ sym (before w.place lt) in omega (arith, w.less))
-          | inr ge ↦ elim (cases_eq w.place place) [
-            | inl same ↦ b.passes v o fit a (let less : element_of v place < element_of r place = subst (λ (q : ℕ). element_of v q < element_of r q) same w.less in omega arith)
-            | inr ne ↦ f.earlier v o fit (agrees-next values v place x inside a (w.same place (omega arith) ∙ here)) w
-          ]
-        ];
+    earlier = λ v o fit a w. elim (earlier-next values r v place x inside f.agrees a w) [
+      | inl less ↦ b.passes v o fit a less
+      | inr further ↦ f.earlier v o fit further w
+    ];
   }
 
   -- all elements that values may have are tried

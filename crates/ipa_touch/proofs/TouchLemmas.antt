@@ -1,6 +1,6 @@
 -- Touched instances suffice: what an action breaks has a literal that one of its effects turns false.
 use Rattle.std.proofs.Common.{◌≡◌, ℕ, Bool, true, false, not, ◌&&◌, ◌||◌, List, [], ◌∷◌, refl, sym, ◌∙◌}
-use Rattle.std.proofs.lemmas.Bool.{false≢true}
+use Rattle.std.proofs.lemmas.Bool.{or_left, or_right, false≢true}
 use Rattle.std.specs.List.{list_any}
 use Rattle.ipa_spec.specs.declared.predicates.Predicate.{Predicate}
 use Rattle.ipa_spec.specs.declared.clauses.Literal.{Literal}
@@ -37,18 +37,10 @@ module _ (ps : List Predicate) (effects : List Effect) (args : List ℕ) (t : Fa
   instance-touched [] b f = absurd (false≢true b)
   instance-touched (l ∷ ls) b f = here (literal_true ps t v l) (literal_true ps (plain_application effects args t) v l) refl refl b f (instance-touched ls)
     where
-      after : (c d : Bool) → d ≡ true → (c || d) ≡ true
-      after true d h = refl
-      after false d h = h
-
-      before : (c d : Bool) → c ≡ true → (c || d) ≡ true
-      before true d h = refl
-      before false d h = absurd (false≢true h)
-
       here : (x y : Bool) → literal_true ps t v l ≡ x → literal_true ps (plain_application effects args t) v l ≡ y
           → (x || list_any (literal_true ps t v) ls) ≡ true → (y || list_any (literal_true ps (plain_application effects args t) v) ls) ≡ false
           → (list_any (literal_true ps t v) ls ≡ true → list_any (literal_true ps (plain_application effects args t) v) ls ≡ false → is_touched ps effects args v ls ≡ true)
           → (is_turned ps effects args v l || is_touched ps effects args v ls) ≡ true
       here x true e k b f rest = absurd (false≢true (sym f))
-      here true false e k b f rest = before (is_turned ps effects args v l) (is_touched ps effects args v ls) (literal-turned l e k)
-      here false false e k b f rest = after (is_turned ps effects args v l) (is_touched ps effects args v ls) (rest b f)
+      here true false e k b f rest = or_left (is_turned ps effects args v l) (is_touched ps effects args v ls) (literal-turned l e k)
+      here false false e k b f rest = or_right (is_turned ps effects args v l) (is_touched ps effects args v ls) (rest b f)

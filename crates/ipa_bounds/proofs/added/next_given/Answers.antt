@@ -1,7 +1,7 @@
 use Rattle.std.proofs.Common.{take, sym}
 use Rattle.std.proofs.lemmas.List.Folds.{list_any_more}
 use Rattle.ipa_logic.specs.Touches.{adds, gives}
-use Rattle.ipa_bounds.proofs.NextLemmas.{next-same}
+use Rattle.ipa_logic.specs.NextLaws.{next-same}
 use Rattle.ipa_bounds.proofs.added.next_given.Goals as goal
 
 pub loop-effect-preserved : goal.loop-effect-preserved

@@ -1,6 +1,6 @@
 use Rattle.std.proofs.Common.{take}
 use Rattle.ipa_logic.specs.Touches.{adds}
-use Rattle.ipa_bounds.specs.Applied.{IsNextOf}
+use Rattle.ipa_logic.specs.Views.{IsNextOf}
 use Rattle.ipa_bounds.proofs.added.next_given.Given as goal
 
 abbrev pub invariant-loop-effect : goal.invariant-loop-effect

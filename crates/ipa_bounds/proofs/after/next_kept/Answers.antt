@@ -1,9 +1,9 @@
 use Rattle.std.proofs.Common.{◌≡◌, find, not, sym, ap}
 use Rattle.ipa_spec.specs.Actions.{effects_of}
 use Rattle.ipa_logic.specs.Touches.{removes}
-use Rattle.ipa_bounds.specs.Applied.{is_left}
+use Rattle.ipa_logic.specs.Views.{is_left}
 use Rattle.ipa_bounds.specs.Walks.{facts_after, facts_from}
-use Rattle.ipa_bounds.proofs.AppliedLemmas.{find-among, find-none}
+use Rattle.ipa_bounds.proofs.FilterLemmas.{find-among, find-none}
 use Rattle.ipa_bounds.proofs.after.next_kept.Goals as goal
 
 pub loop-fact-init : goal.loop-fact-init

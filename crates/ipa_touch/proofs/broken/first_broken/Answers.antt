@@ -1,6 +1,6 @@
 use Rattle.std.proofs.Common.{◌≡◌, ◌≤◌, length, ap, arith}
 use Rattle.ipa_spec.specs.FaultlessFits.{IsFit-from_faultless}
-use Rattle.ipa_touch.proofs.ClauseLemmas.{keep-next, keep-first, keep-all, clause_at}
+use Rattle.ipa_logic.specs.ClauseLaws.{clause_at, keep-next, keep-first, keep-all}
 use Rattle.ipa_touch.proofs.broken.first_broken.Goals as goal
 
 pub first_broken_values-requires-clause-short : goal.first_broken_values-requires-clause-short
@@ -19,7 +19,7 @@ overflow_cast-result g c =
 
 pub returns-in-Some : goal.returns-in-Some
 returns-in-Some g c = keep-first _ _ _ _ _ _
-    (clause_at _ _ _ _ (c.clauses_of-clause-items.ensures.value) (omega arith) c.clause-item.is) c.loop-number.invariant c.in-Some.ensures
+    (clause_at _ _ _ _ (c.clauses_of-clause-items.ensures.value) (omega arith) c.clause-item.is) c.loop-number.invariant c.in-Some.ensures.over c.in-Some.ensures.fails c.in-Some.ensures.earlier
 
 pub loop-number-preserved : goal.loop-number-preserved
 loop-number-preserved g c = keep-next _ _ _ _ _

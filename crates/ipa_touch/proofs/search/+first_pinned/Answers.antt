@@ -1,9 +1,10 @@
 use Rattle.std.proofs.Common.{◌<◌, length, arith, sym}
 use Rattle.std.proofs.lemmas.Option.{slice_get_within}
+use Rattle.ipa_logic.specs.VariableLaws.{variables-past, variable-at}
+use Rattle.ipa_logic.specs.ValueLaws.{partial-next}
 use Rattle.ipa_touch.specs.Turns.{holds_after}
-use Rattle.ipa_touch.proofs.VariableLemmas.{variables-past, variable-at}
 use Rattle.ipa_touch.proofs.DecidedLemmas.{settled-passes}
-use Rattle.ipa_touch.proofs.SearchLemmas.{pass-done, first-done, pass-settled, below-first, below-next, first-below, below-leap, pass-all, partial-next}
+use Rattle.ipa_touch.proofs.SearchLemmas.{pass-done, first-done, pass-settled, below-first, below-next, first-below, below-leap, pass-all}
 use Rattle.ipa_touch.proofs.search.+first_pinned.Goals as goal
 
 pub returns-then-passes_after : goal.returns-then-passes_after
