@@ -19,11 +19,12 @@ use Rattle.ipa_logic.specs.Acceptance.{DropBreaks}
 use Rattle.ipa_logic.specs.Renaming.{Embeds, embed_values}
 use Rattle.ipa_logic.specs.RestrictionLaws.{IsDroppable-embed, plain_application-embed, instance_true-embed}
 use Rattle.ipa_logic.specs.declared.facts.Fact.{Fact}
+use Rattle.ipa_ground.specs.FactsLaws.{AreShort-from_fit}
 use Rattle.ipa_ground.specs.Patterns.{AreSorts, IsPattern, PatternFor}
 use Rattle.ipa_ground.specs.SamePattern.{pattern_for}
 use Rattle.ipa_cases.specs.Cases.{drop_sorts, drop_universe, drop_args, drop_values, AreDropArguments, IsDropBreak, DropBreaksOn, DropBreaksOnSome}
 use Rattle.ipa_cases.specs.PartLaws.{IsPart, IsPart-front, IsPart-second, IsOver-args_at}
-use Rattle.ipa_cases.proofs.SortsLemmas.{are-short, AreSorts-append, AreSorts-action, AreSorts-clause, few-values}
+use Rattle.ipa_cases.proofs.SortsLemmas.{AreSorts-append, AreSorts-action, AreSorts-clause, few-values}
 use Rattle.ipa_cases.proofs.ElementsLemmas.{AreElements, taken, length-taken, AreElements-taken, AreElements-append}
 use Rattle.ipa_cases.proofs.RenamedParts.{embedding, part-stands}
 use Rattle.ipa_cases.proofs.RestrictedStates.{restricted, IsState-restricted, restricts}
@@ -96,7 +97,7 @@ module _ (s : Specification) (fit : IsFit s) (n k : ℕ) (c : Clause) (g : slice
       on_pattern =
           let over = drop-arguments p.classes p.is_pattern in
           let small_before : List Fact = restricted small to s.predicates before in
-          let restriction = restricts small to s.predicates before (are-short s fit) in
+          let restriction = restricts small to s.predicates before (AreShort-from_fit s fit) in
           record {
             classes = p.classes;
             is_pattern = p.is_pattern;
@@ -104,7 +105,7 @@ module _ (s : Specification) (fit : IsFit s) (n k : ℕ) (c : Clause) (g : slice
               before = small_before;
               break = record {
                 droppable = IsDroppable-embed small large to embeds s fit b n (drop_args s n p.classes) before small_before over.args
-                    (IsState-restricted small to s.predicates before (are-short s fit)) restriction stands.droppable;
+                    (IsState-restricted small to s.predicates before (AreShort-from_fit s fit)) restriction stands.droppable;
                 clause_values = over.values;
                 broken = instance_true-embed small large to embeds s fit k c g (drop_values s n c p.classes) over.values
                     (plain_application (effects_of s (Drop n)) (drop_args s n p.classes) (has small_before))

@@ -2,7 +2,6 @@
 --
 --   AreSorts-append, AreSorts-action, AreSorts-clause   their sorts are among the eight
 --   few-values      a clause has at most four variables
---   are-short       each predicate has at most three places
 use Rattle.std.proofs.Common.{◌≡◌, ℕ, ◌≤◌, List, ◌++◌, length, arith, Some, slice_get, inl, inr}
 use Rattle.std.proofs.lemmas.List.{length-map}
 use Rattle.ipa_spec.specs.Actions.{sorts_of, sorts_of_vars}
@@ -10,7 +9,6 @@ use Rattle.ipa_spec.specs.Fits.{IsFit}
 use Rattle.ipa_spec.specs.declared.specification.Specification.{Specification}
 use Rattle.ipa_spec.specs.declared.clauses.Clause.{Clause}
 use Rattle.ipa_spec.specs.declared.operations.Action.{Action}
-use Rattle.ipa_ground.specs.Enumeration.{AreShort}
 use Rattle.ipa_ground.specs.ListLaws.{listed_in}
 use Rattle.ipa_ground.specs.Patterns.{AreSorts}
 
@@ -23,9 +21,6 @@ AreSorts-append a b h g = record {
 }
 
 module _ (s : Specification) (fit : IsFit s) where
-  pub are-short : AreShort s.predicates
-  are-short = record { short = fit.arities }
-
   pub AreSorts-action : (action : Action) → AreSorts (sorts_of s action)
   AreSorts-action action = record { below = λ i sort e. omega (arith, fit.argument_sort action i sort e, fit.sort_count) }
 

@@ -17,11 +17,12 @@ use Rattle.ipa_logic.specs.Conflicts.{IsConflictAt, Conflict}
 use Rattle.ipa_logic.specs.Renaming.{Embeds, embed_values}
 use Rattle.ipa_logic.specs.RestrictionLaws.{IsConflictAt-embed}
 use Rattle.ipa_logic.specs.declared.facts.Fact.{Fact}
+use Rattle.ipa_ground.specs.FactsLaws.{AreShort-from_fit}
 use Rattle.ipa_ground.specs.Patterns.{AreSorts, IsPattern, PatternFor}
 use Rattle.ipa_ground.specs.SamePattern.{pattern_for}
 use Rattle.ipa_cases.specs.Cases.{triple_sorts, triple_universe, left_args, right_args, triple_values, AreTripleArguments, ConflictOn, ConflictOnSome}
 use Rattle.ipa_cases.specs.PartLaws.{IsPart, IsPart-front, IsPart-middle, IsPart-last, IsOver-args_at}
-use Rattle.ipa_cases.proofs.SortsLemmas.{are-short, AreSorts-append, AreSorts-action, AreSorts-clause, few-values}
+use Rattle.ipa_cases.proofs.SortsLemmas.{AreSorts-append, AreSorts-action, AreSorts-clause, few-values}
 use Rattle.ipa_cases.proofs.ElementsLemmas.{AreElements, taken, length-taken, AreElements-taken, AreElements-append}
 use Rattle.ipa_cases.proofs.RenamedParts.{embedding, part-stands}
 use Rattle.ipa_cases.proofs.RestrictedStates.{restricted, IsState-restricted, restricts}
@@ -120,8 +121,8 @@ module _ (s : Specification) (fit : IsFit s) (left right : Action) (k : ℕ) (c 
           conflict = IsConflictAt-embed small large to embeds s fit left right k c g
               (left_args s left p.classes) (right_args s left right p.classes) (triple_values s left right c p.classes) over.left over.right over.values
               place after_left after_right (restricted small to s.predicates after_left) (restricted small to s.predicates after_right)
-              (IsState-restricted small to s.predicates after_left (are-short s fit)) (IsState-restricted small to s.predicates after_right (are-short s fit))
-              (restricts small to s.predicates after_left (are-short s fit)) (restricts small to s.predicates after_right (are-short s fit)) stands;
+              (IsState-restricted small to s.predicates after_left (AreShort-from_fit s fit)) (IsState-restricted small to s.predicates after_right (AreShort-from_fit s fit))
+              (restricts small to s.predicates after_left (AreShort-from_fit s fit)) (restricts small to s.predicates after_right (AreShort-from_fit s fit)) stands;
         };
       }
 

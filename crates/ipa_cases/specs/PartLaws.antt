@@ -2,7 +2,6 @@
 --
 --   IsPart whole from part   the part stands in the list from a place on
 --   IsPart-front, IsPart-second, IsPart-middle, IsPart-last   the parts of two and of three joined lists
---   length-pattern        a pattern has a class for each variable
 --   padded-at             places past a pattern's classes hold 0
 --   args_at-at            an argument is the class of its variable
 --   args_at-past          past the part's variables the arguments are 0
@@ -12,13 +11,13 @@
 use Rattle.std.proofs.Common.{◌≡◌, ℕ, zero, suc, ◌+◌, ◌-◌, ◌<◌, ◌≤◌, List, [], ◌∷◌, ◌++◌, length, take, drop, replicate, refl, sym, ap, ◌∙◌, subst, arith, Some, slice_get, inl, inr}
 use Rattle.std.specs.List.{slice_index}
 use Rattle.std.proofs.lemmas.Bool.{cases_lt}
-use Rattle.std.proofs.lemmas.List.{get_or-take, get_or-drop, get_or_past, get_or_append_left, get_or-append_right, get_or-replicate, length-take, length-replicate}
+use Rattle.std.proofs.lemmas.List.{get_or-take, get_or-drop, get_or_past, get_or_append_left, get_or-append_right, length-take}
 use Rattle.std.proofs.lemmas.Option.{slice_get_within}
 use Rattle.std.proofs.lemmas.Grind.{same_number_lists}
-use Rattle.ipa_logic.specs.Facts.{Universe, size_of}
+use Rattle.ipa_logic.specs.Facts.{size_of}
 use Rattle.ipa_logic.specs.Truth.{IsOver}
-use Rattle.ipa_ground.specs.Patterns.{AreSorts, opened, IsPatternFrom, IsPattern, pattern_universe, padded, four, args_at, unused}
-use Rattle.ipa_ground.specs.ListLaws.{get-left, get-right}
+use Rattle.ipa_ground.specs.Patterns.{AreSorts, IsPattern, pattern_universe, padded, four, args_at}
+use Rattle.ipa_ground.specs.ListLaws.{get-left, get-right, replicate-zero}
 use Rattle.ipa_ground.specs.SamePattern.{pattern-within}
 
 -- the part stands in the list from this place on
@@ -50,28 +49,12 @@ IsPart-middle xs ys zs n is = IsPart-behind xs (ys ++ zs) ys 0 n (omega (arith, 
 pub IsPart-last : {X : Type 0} (xs ys zs : List X) (n m : ℕ) → length xs ≡ n → length ys ≡ m → IsPart (xs ++ (ys ++ zs)) (n + m) zs
 IsPart-last xs ys zs n m xs_is ys_is = IsPart-behind xs (ys ++ zs) zs m (n + m) (omega (arith, xs_is)) (IsPart-second ys zs m ys_is)
 
--- a pattern has a class for each variable
-length-from : (used : Universe) (sorts classes : List ℕ) → IsPatternFrom used sorts classes → length classes ≡ length sorts
-length-from used [] [] p = refl
-length-from used [] (class ∷ classes) p = absurd p
-length-from used (sort ∷ sorts) [] p = absurd p
-length-from used (sort ∷ sorts) (class ∷ classes) p = ap suc (length-from (opened used sort class) sorts classes p.1)
-
-pub length-pattern : (sorts classes : List ℕ) → IsPattern sorts classes → length classes ≡ length sorts
-length-pattern sorts classes p = length-from unused sorts classes p
-
 -- places past a pattern's classes hold 0
 pub padded-at : (classes : List ℕ) (i : ℕ) → slice_index (padded classes) i ≡ slice_index classes i
 padded-at classes i = elim (cases_lt i (length classes)) [
   | inl within ↦ get_or_append_left classes (replicate (12 - length classes) 0) 0 i within
-  | inr past ↦ (get_or-append_right classes (replicate (12 - length classes) 0) (length classes) i 0 refl past ∙ (zeros (12 - length classes) (i - length classes) ∙ sym (get_or_past classes i 0 past)))
+  | inr past ↦ (get_or-append_right classes (replicate (12 - length classes) 0) (length classes) i 0 refl past ∙ (replicate-zero (12 - length classes) (i - length classes) ∙ sym (get_or_past classes i 0 past)))
 ]
-  where
-    zeros : (n j : ℕ) → slice_index (replicate n 0) j ≡ 0
-    zeros n j = elim (cases_lt j n) [
-      | inl l ↦ get_or-replicate n j 0 0 l
-      | inr m ↦ (let long : length (replicate {A = ℕ} n 0) ≡ n = length-replicate n 0 in get_or_past (replicate n 0) j 0 (omega arith))
-    ]
 
 -- four numbers of a list
 four-at : (xs : List ℕ) (v : ℕ) → v < 4 → slice_index (four xs) v ≡ slice_index xs v

@@ -11,7 +11,7 @@ use Rattle.ipa_ground.specs.Enumeration.{branches}
 use Rattle.ipa_ground.specs.BranchLaws.{branch, branches-suc, length-branches}
 use Rattle.ipa_ground.specs.Patterns.{AreSorts, unused, opened, patterns_from, patterns}
 use Rattle.ipa_ground.specs.PatternCounts.{ways, variables_of, product_below}
-use Rattle.ipa_ground.specs.SamePattern.{AreSortsOf, length-opened, size-opened, size-other, opened-in_use}
+use Rattle.ipa_ground.specs.ClassLaws.{AreSortsOf, length-opened, size-opened, size-other, opened-in_use}
 
 -- the table of the numbers of set partitions
 pub table-ways : (n : ℕ) → n ≤ 12 → slice_index (1 ∷ 1 ∷ 2 ∷ 5 ∷ 15 ∷ 52 ∷ 203 ∷ 877 ∷ 4140 ∷ 21147 ∷ 115975 ∷ 678570 ∷ 4213597 ∷ []) n ≡ ways n 0

@@ -1,12 +1,13 @@
 -- Classes in use, as variables take theirs one after the other.
-use Rattle.std.proofs.Common.{◌≡◌, ℕ, ◌+◌, ◌-◌, ◌<◌, ◌≤◌, ◌≢◌, ◌==◌, List, [], ◌∷◌, ◌++◌, length, take, replicate, refl, sym, ap, ◌∙◌, subst, arith, inl, inr, set}
+use Rattle.std.proofs.Common.{◌≡◌, ℕ, ◌+◌, ◌-◌, ◌<◌, ◌≤◌, ◌≢◌, List, [], ◌∷◌, ◌++◌, length, take, replicate, refl, sym, ap, ◌∙◌, subst, arith, inl, inr, set}
 use Rattle.std.specs.List.{slice_index}
-use Rattle.std.proofs.lemmas.Bool.{cases_lt, cases_eq, cond-true, cond-false, eq-eqb, ne_eqb}
-use Rattle.std.proofs.lemmas.List.{take_more, take-set-le, length-take-le, set-set, set-get_or, get_or-set_same, get_or-set_other, get_or-replicate, get_or_past, set_past, take-take, get_or-take}
+use Rattle.std.proofs.lemmas.Bool.{cases_lt}
+use Rattle.std.proofs.lemmas.List.{take_more, take-set-le, length-take-le, set-set, set-get_or, get_or-set_same, get_or-set_other, take-take, get_or-take}
 use Rattle.ipa_ground.proofs.PatternOrder.{limit_at, IsRaised, AreNewest, later-raised, later-newest}
 use Rattle.ipa_logic.specs.Facts.{Universe, size_of}
 use Rattle.ipa_ground.specs.Patterns.{unused, opened, used_after}
-use Rattle.ipa_ground.specs.SamePattern.{length-opened, size-opened, size-other}
+use Rattle.ipa_ground.specs.ClassLaws.{length-opened, opened-same, opened-other, size-after_most}
+use Rattle.ipa_ground.specs.ListLaws.{replicate-zero}
 use Rattle.ipa_ground.specs.Cursors.{IsAt, IsCursor, IsOfVariables, IsSameButUsed, IsBehind, sorts_in, classes_in}
 use Rattle.ipa_ground.specs.PatternValues.{left, later}
 use Rattle.ipa_ground.specs.declared.cursor.Cursor.{Cursor}
@@ -67,13 +68,7 @@ at-set_limit sorts classes limits used n i x l h = record {
 pub at-none : (sorts classes limits : List ℕ) → IsAt sorts classes limits (replicate 8 0) 0
 at-none sorts classes limits = record { limit = λ j l. absurd (omega arith); class = λ j l. absurd (omega arith); used_is = refl }
 
--- how the two cases of `open` and `close` change the classes in use
-pub opened-same : (used : Universe) (sort class : ℕ) → class ≡ size_of used sort → opened used sort class ≡ set used sort (size_of used sort + 1)
-opened-same used sort class e = cond-true (class == size_of used sort) _ used (eq-eqb class (size_of used sort) e)
-
-pub opened-other : (used : Universe) (sort class : ℕ) → (class ≡ size_of used sort → ⊥) → opened used sort class ≡ used
-opened-other used sort class n = cond-false (class == size_of used sort) (set used sort (size_of used sort + 1)) _ (ne_eqb class (size_of used sort) n)
-
+-- `close` gives a new class back
 pub closed-same : (used now : Universe) (sort class : ℕ) → sort < length used → class ≡ size_of used sort → now ≡ opened used sort class → set now sort (size_of now sort - 1) ≡ used
 closed-same used now sort class l e is =
     let opens : now ≡ set used sort (size_of used sort + 1) = is ∙ opened-same used sort class e in
@@ -83,37 +78,13 @@ closed-same used now sort class l e is =
     ∙ (set-set used sort (size_of used sort + 1) (size_of used sort) ∙ set-get_or used sort 0))
 
 -- no sort has more classes in use than there are variables
-used-bound : (used : Universe) (sorts classes : List ℕ) (sort : ℕ) → size_of (used_after used sorts classes) sort ≤ size_of used sort + length sorts
-used-bound used [] classes sort = omega arith
-used-bound used (s ∷ sorts) [] sort = omega arith
-used-bound used (s ∷ sorts) (c ∷ classes) sort =
-    let rest = used-bound (opened used s c) sorts classes sort in
-    let one : size_of (opened used s c) sort ≤ size_of used sort + 1 = first in
-    omega arith
-  where
-    first : size_of (opened used s c) sort ≤ size_of used sort + 1
-    first = elim (cases_eq sort s) [
-      | inr other ↦ (let stays : size_of (opened used s c) sort ≡ size_of used sort = size-other used s c sort other in omega arith)
-      | inl same ↦ elim (cases_eq c (size_of used s)) [
-        | inr old ↦ (let stays : size_of (opened used s c) sort ≡ size_of used sort = ap (λ (u : Universe). size_of u sort) (opened-other used s c old) in omega arith)
-        | inl new ↦ elim (cases_lt s (length used)) [
-          | inl inside ↦ (let grows : size_of (opened used s c) s ≡ size_of used s + 1 = size-opened used s c inside new in
-              subst (λ (q : ℕ). size_of (opened used s c) q ≤ size_of used q + 1) (sym same) (omega arith))
-          | inr past ↦ (let stays : size_of (opened used s c) sort ≡ size_of used sort = ap (λ (u : Universe). size_of u sort) (opened-same used s c new ∙ set_past used s (size_of used s + 1) past) in omega arith)
-        ]
-      ]
-    ]
-
 pub at-bound : (sorts classes limits : List ℕ) (used : Universe) (n sort : ℕ) → n ≤ length sorts → IsAt sorts classes limits used n → size_of used sort ≤ n
 at-bound sorts classes limits used n sort l h =
-    let bound = used-bound unused (take n sorts) (take n classes) sort in
-    let none : size_of unused sort ≡ 0 = start in
+    let bound = size-after_most unused (take n sorts) (take n classes) sort in
+    let none = replicate-zero 8 sort in
     let long : length (take n sorts) ≡ n = length-take-le n sorts l in
     let same : size_of used sort ≡ size_of (used_at sorts classes n) sort = ap (λ (u : Universe). size_of u sort) h.used_is in
     omega arith
-  where
-    start : size_of unused sort ≡ 0
-    start = elim (cases_lt sort 8) [ inl inside ↦ get_or-replicate 8 sort 0 0 inside | inr past ↦ get_or_past unused sort 0 past ]
 
 length-after : (used : Universe) (sorts classes : List ℕ) → length (used_after used sorts classes) ≡ length used
 length-after used [] classes = refl

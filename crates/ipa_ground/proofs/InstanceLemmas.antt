@@ -1,21 +1,22 @@
 -- Values that are filled variable by variable, and clauses that are kept one after the other.
-use Rattle.std.proofs.Common.{◌≡◌, ℕ, zero, suc, ◌+◌, ◌<◌, ◌≤◌, ◌≢◌, Bool, true, List, [], ◌∷◌, length, map, take, drop, Some, None, refl, sym, ap, ◌∙◌, subst, arith, inl, inr, slice_get, set}
+use Rattle.std.proofs.Common.{◌≡◌, ℕ, zero, suc, ◌+◌, ◌<◌, ◌≤◌, ◌≢◌, Bool, true, List, [], ◌∷◌, length, map, take, drop, Some, refl, sym, ap, ◌∙◌, subst, arith, inl, inr, slice_get, set}
 use Rattle.std.specs.List.{slice_index}
 use Rattle.std.proofs.lemmas.Bool.{cases_lt}
 use Rattle.std.proofs.lemmas.List.{get_or-set_other, get_or-set_same, length-set, length-map, length-take-le, drop_all, drop_more, get_or-take}
 use Rattle.std.proofs.lemmas.List.Elements.{length_all_zip}
 use Rattle.std.proofs.lemmas.Grind.{same_number_lists}
-use Rattle.std.proofs.lemmas.Option.{slice_get_within, get_or_from_slice_get, same_Some, slice_get-map, slice_get_cases}
-use Rattle.std.specs.Option.{option_map}
+use Rattle.std.proofs.lemmas.Option.{slice_get_within, get_or_from_slice_get, same_Some}
 use Rattle.ipa_spec.specs.declared.predicates.Var.{Var}
 use Rattle.ipa_spec.specs.Actions.{sorts_of_vars}
 use Rattle.ipa_spec.specs.declared.specification.Specification.{Specification}
 use Rattle.ipa_spec.specs.declared.clauses.Clause.{Clause}
+use Rattle.ipa_logic.specs.ClauseLaws.{KeepBelow, keep-none, keep-next, keep-all}
 use Rattle.ipa_logic.specs.Facts.{Universe, size_of}
 use Rattle.ipa_logic.specs.Truth.{IsOver, instance_true, KeepsClause}
 use Rattle.ipa_sat.specs.Formula.{Formula, Satisfies}
 use Rattle.ipa_ground.specs.Enumeration.{facts_over, IsTuple}
-use Rattle.ipa_ground.specs.Instances.{filled, IsRest, FillsOver, PassesFrom, PassesBelow, ClauseFits}
+use Rattle.ipa_ground.specs.Instances.{filled, IsRest, FillsOver, PassesFrom, PassesBelow}
+use Rattle.ipa_ground.specs.ListLaws.{replicate-zero}
 use Rattle.ipa_spec.specs.Limits.{IsFaultless}
 use Rattle.ipa_spec.specs.FaultlessFits.{IsFit-from_faultless}
 use Rattle.ipa_ground.proofs.FormulaLemmas.{narrows-same, narrows-further}
@@ -44,16 +45,6 @@ filled-in at values (x ∷ rest) zero l w =
 filled-in at values (x ∷ rest) (suc j) l w =
     ap (slice_index (filled (at + 1) (set values at x) rest)) (omega arith)
     ∙ filled-in (at + 1) (set values at x) rest j (omega arith) (omega (arith, length-set values at x))
-
--- the sort of a variable that is there, and a place past the variables
-pub variable-at : (vars : List Var) (at : ℕ) (v : Var) → Some v ≡ slice_get vars at → slice_get (sorts_of_vars vars) at ≡ Some v.sort
-variable-at vars at v e = slice_get-map (λ (w : Var). w.sort) vars at ∙ ap (option_map (λ (w : Var). w.sort)) (sym e)
-
-pub variables-past : (vars : List Var) (at : ℕ) → None ≡ slice_get vars at → length (sorts_of_vars vars) ≤ at
-variables-past vars at e = elim (slice_get_cases vars at).1 [
-  | inl found ↦ absurd (let both : Some found.0 ≡ None = sym found.2 ∙ sym e in cc)
-  | inr past ↦ omega (arith, past.0, length-map vars (λ (w : Var). w.sort))
-]
 
 module _ (universe : Universe) (sorts : List ℕ) where
   abbrev sizes_from : ℕ → List ℕ
@@ -90,18 +81,11 @@ module _ (universe : Universe) (sorts : List ℕ) where
           elements = λ v sort e. let inside = slice_get_within sorts v sort e in
               subst (λ x. x < size_of universe sort) (sym (ap (slice_index (filled 0 (0 ∷ 0 ∷ 0 ∷ 0 ∷ []) rest)) (omega arith) ∙ filled-in 0 (0 ∷ 0 ∷ 0 ∷ 0 ∷ []) rest v (omega arith) (omega arith)))
               (below sorts rest v sort e r);
-          unused = λ v past. filled-past 0 (0 ∷ 0 ∷ 0 ∷ 0 ∷ []) rest v (omega arith) ∙ zeros v;
+          unused = λ v past. filled-past 0 (0 ∷ 0 ∷ 0 ∷ 0 ∷ []) rest v (omega arith) ∙ replicate-zero 4 v;
           width = length-filled 0 (0 ∷ 0 ∷ 0 ∷ 0 ∷ []) rest;
         };
   }
     where
-      zeros : (v : ℕ) → slice_index (0 ∷ 0 ∷ 0 ∷ 0 ∷ []) v ≡ 0
-      zeros zero = refl
-      zeros (suc zero) = refl
-      zeros (suc (suc zero)) = refl
-      zeros (suc (suc (suc zero))) = refl
-      zeros (suc (suc (suc (suc v)))) = refl
-
       below : (sorts rest : List ℕ) (v sort : ℕ) → slice_get sorts v ≡ Some sort → IsTuple (map (size_of universe) sorts) rest → slice_index rest v < size_of universe sort
       below [] rest v sort e r = cc
       below (s ∷ sorts) [] v sort e r = absurd r
@@ -116,17 +100,10 @@ module _ (universe : Universe) (sorts : List ℕ) where
         same_number_lists (filled 0 (0 ∷ 0 ∷ 0 ∷ 0 ∷ []) (take (length sorts) values)) values (length-filled 0 (0 ∷ 0 ∷ 0 ∷ 0 ∷ []) (take (length sorts) values) ∙ sym o.width) (λ k l. elim (cases_lt k (length sorts)) [
           | inl used ↦ (ap (slice_index (filled 0 (0 ∷ 0 ∷ 0 ∷ 0 ∷ []) (take (length sorts) values))) (omega arith)
               ∙ (filled-in 0 (0 ∷ 0 ∷ 0 ∷ 0 ∷ []) (take (length sorts) values) k (omega arith) (omega arith) ∙ get_or-take (length sorts) values k 0 used))
-          | inr past ↦ (filled-past 0 (0 ∷ 0 ∷ 0 ∷ 0 ∷ []) (take (length sorts) values) k (omega arith) ∙ (zeros k ∙ sym (o.unused k past)))
+          | inr past ↦ (filled-past 0 (0 ∷ 0 ∷ 0 ∷ 0 ∷ []) (take (length sorts) values) k (omega arith) ∙ (replicate-zero 4 k ∙ sym (o.unused k past)))
         ]),
       )
     where
-      zeros : (v : ℕ) → slice_index (0 ∷ 0 ∷ 0 ∷ 0 ∷ []) v ≡ 0
-      zeros zero = refl
-      zeros (suc zero) = refl
-      zeros (suc (suc zero)) = refl
-      zeros (suc (suc (suc zero))) = refl
-      zeros (suc (suc (suc (suc v)))) = refl
-
       rest : (sorts values : List ℕ) → ((v sort : ℕ) → slice_get sorts v ≡ Some sort → slice_index values v < size_of universe sort) → length sorts ≤ length values → IsTuple (map (size_of universe) sorts) (take (length sorts) values)
       rest [] values h l = tt
       rest (s ∷ sorts) [] h l = absurd (omega arith)
@@ -200,35 +177,27 @@ grounds-clause s universe first c f a short g t = record {
 module _ (s : Specification) (universe : Universe) (first : ℕ) where
   pub record KeepsBelow (old new : Formula) (n : ℕ) : Type 0 where
     pub narrows : Narrows s universe first old new
-    pub clauses : (a : List Bool) → Satisfies new a → (k : ℕ) (c : Clause) → k < n → slice_get s.clauses k ≡ Some c → KeepsClause s.predicates universe (test_of first a (facts_over s.predicates universe)) c
+    pub clauses : (a : List Bool) → Satisfies new a → KeepBelow s universe (test_of first a (facts_over s.predicates universe)) n
 
   pub keeps-none : (f : Formula) → KeepsBelow f f 0
-  keeps-none f = record { narrows = narrows-same s universe first f; clauses = λ a t k c l e. absurd (omega arith) }
+  keeps-none f = record { narrows = narrows-same s universe first f; clauses = λ a t. keep-none s universe (test_of first a (facts_over s.predicates universe)) }
 
   pub keeps-next : (old f new : Formula) (n : ℕ) (c : Clause) → slice_get s.clauses n ≡ Some c → length c.vars ≤ 4 → KeepsBelow old f n → Narrows s universe first f new
       → GroundsFrom s universe first c 0 (0 ∷ 0 ∷ 0 ∷ 0 ∷ []) new → KeepsBelow old new (n + 1)
   keeps-next old f new n c e short b m g = record {
     narrows = narrows-further s universe first old f new b.narrows m;
-    clauses = λ a t k d l at. elim (cases_lt k n) [
-      | inl lt ↦ b.clauses a (m.older a t) k d lt at
-      | inr ge ↦ (let here : k ≡ n = omega arith in
-          let same : c ≡ d = same_Some c d (sym e ∙ (ap (slice_get s.clauses) (sym here) ∙ at)) in
-          subst (λ (q : Clause). KeepsClause s.predicates universe (test_of first a (facts_over s.predicates universe)) q) same (grounds-clause s universe first c new a short g t))
-    ];
+    clauses = λ a t. keep-next s universe (test_of first a (facts_over s.predicates universe)) n c e (b.clauses a (m.older a t)) (grounds-clause s universe first c new a short g t);
   }
 
   pub keeps-all : (old new : Formula) (n : ℕ) → length s.clauses ≤ n → KeepsBelow old new n → Grounds s universe first old new
   keeps-all old new n l b = record {
     vars = b.narrows.vars;
     satisfied = λ a. (
-      (λ t. (b.narrows.older a t, record { clauses = λ k c e. b.clauses a t k c (let inside = slice_get_within s.clauses k c e in omega arith) e })),
+      (λ t. (b.narrows.older a t, keep-all s universe (test_of first a (facts_over s.predicates universe)) n l (b.clauses a t))),
       (λ h. b.narrows.kept a h.0 h.1),
     );
   }
 
--- a clause of a faultless specification fits, and its four values are open
-pub clause-fits : (s : Specification) (k : ℕ) (c : Clause) → IsFaultless s → slice_get s.clauses k ≡ Some c → ClauseFits s.predicates c
-clause-fits s k c h e = let fit = IsFit-from_faultless s h in record { variable_count = fit.variable_count k c e; literal_count = fit.literal_count k c e; literals = λ j l at. fit.literals k j c l e at }
-
+-- the four values of a clause of a faultless specification are open
 pub fills-clause : (s : Specification) (universe : Universe) (k : ℕ) (c : Clause) → IsFaultless s → slice_get s.clauses k ≡ Some c → FillsOver universe (sorts_of_vars c.vars) 0 (0 ∷ 0 ∷ 0 ∷ 0 ∷ [])
 fills-clause s universe k c h e = fills-none universe (sorts_of_vars c.vars) (omega (arith, (IsFit-from_faultless s h).variable_count k c e, length-map c.vars (λ (w : Var). w.sort)))

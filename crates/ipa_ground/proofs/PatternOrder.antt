@@ -3,35 +3,28 @@ use Rattle.std.proofs.Common.{◌≡◌, ℕ, zero, suc, ◌+◌, ◌<◌, Bool,
 use Rattle.std.specs.List.{slice_index}
 use Rattle.std.specs.List.Sorted.{IsStrictlySortedBy}
 use Rattle.std.specs.Ordering.{nat_cmp, is_lt, ordering_then, ordering_reverse}
-use Rattle.std.specs.Cmp.{nat_cmp_total, tied_itself}
+use Rattle.std.specs.Cmp.{nat_cmp_is, tied_itself}
 use Rattle.std.specs.Cmp.Lexicographic.{slice_cmp, nat_list_cmp_total}
 use Rattle.std.specs.declared.cmp.Ordering.TheVariants.{Less, Equal, Greater}
-use Rattle.std.proofs.lemmas.Bool.{cases_order, cond-false, le-ltb, ne_eqb}
+use Rattle.std.proofs.lemmas.Bool.{cases_order}
 use Rattle.std.proofs.lemmas.Option.{same_Some}
 use Rattle.ipa_logic.specs.Facts.{Universe, size_of}
 use Rattle.ipa_ground.specs.Enumeration.{IsListed}
 use Rattle.ipa_ground.specs.ListLaws.{Listed-cons, Rises-head, Rises-tail}
 use Rattle.ipa_ground.specs.BranchLaws.{less-from_lt}
 use Rattle.ipa_ground.specs.Patterns.{unused, opened, IsPatternFrom, IsPattern, used_after, patterns}
-use Rattle.ipa_ground.specs.PatternLaws.{Listed-patterns, listed_pattern, Rises-patterns}
+use Rattle.ipa_ground.specs.PatternLaws.{Listed-patterns, listed_pattern, Rises-patterns, length-pattern_from, length-pattern}
 use Rattle.ipa_ground.specs.PatternValues.{is_before, left, later}
-
--- numbers in order
-greater-from_lt : (x y : ℕ) → y < x → nat_cmp x y ≡ Greater
-greater-from_lt x y l = cond-false _ Less _ (le-ltb x y (omega arith)) ∙ cond-false _ Equal Greater (ne_eqb x y (λ e. absurd (omega arith)))
-
-equal-from_same : (x y : ℕ) → x ≡ y → nat_cmp x y ≡ Equal
-equal-from_same x y e = ap (nat_cmp x) (sym e) ∙ tied_itself nat_cmp_total x
 
 -- how a first class decides
 before-less : (x y : ℕ) (xs ys : List ℕ) → x < y → is_before (x ∷ xs) (y ∷ ys) ≡ true
 before-less x y xs ys l = ap (λ o. is_lt (ordering_then o (slice_cmp nat_cmp xs ys))) (less-from_lt x y l)
 
 before-greater : (x y : ℕ) (xs ys : List ℕ) → y < x → is_before (x ∷ xs) (y ∷ ys) ≡ false
-before-greater x y xs ys l = ap (λ o. is_lt (ordering_then o (slice_cmp nat_cmp xs ys))) (greater-from_lt x y l)
+before-greater x y xs ys l = ap (λ o. is_lt (ordering_then o (slice_cmp nat_cmp xs ys))) (sym (nat_cmp_is x y Greater l))
 
 before-same : (x y : ℕ) (xs ys : List ℕ) → x ≡ y → is_before (x ∷ xs) (y ∷ ys) ≡ is_before xs ys
-before-same x y xs ys e = ap (λ o. is_lt (ordering_then o (slice_cmp nat_cmp xs ys))) (equal-from_same x y e)
+before-same x y xs ys e = ap (λ o. is_lt (ordering_then o (slice_cmp nat_cmp xs ys))) (sym (nat_cmp_is x y Equal e))
 
 before-itself : (xs : List ℕ) → is_before xs xs ≡ false
 before-itself xs = ap is_lt (tied_itself nat_list_cmp_total xs)
@@ -128,12 +121,6 @@ first-least (x ∷ q) (z ∷ zeros) e h =
       ]
     ]
 
-length-pattern : (used : Universe) (sorts classes : List ℕ) → IsPatternFrom used sorts classes → length classes ≡ length sorts
-length-pattern used [] [] p = refl
-length-pattern used [] (c ∷ classes) p = absurd p
-length-pattern used (s ∷ sorts) [] p = absurd p
-length-pattern used (s ∷ sorts) (c ∷ classes) p = omega (arith, length-pattern (opened used s c) sorts classes p.1)
-
 -- what comes behind a pattern does not come before the raised one
 raised-next : (used : Universe) (sorts classes ns q : List ℕ) (place : ℕ) → IsRaised used sorts classes ns place → IsPatternFrom used sorts q → is_before classes q ≡ not (is_before q ns)
 raised-next used [] classes ns q place h p = absurd (omega (arith, h.within))
@@ -150,7 +137,7 @@ raised-next used (s ∷ sorts) (c ∷ classes) (n ∷ ns) (x ∷ q) zero h p =
       | inr differs ↦ elim differs [
         | inl less ↦ before-greater c x classes q less ∙ sym (ap not (before-less x n q ns (omega arith)))
         | inr more ↦ before-less c x classes q more ∙ sym (ap not (elim (cases_order x n) [
-          | inl top ↦ before-same x n q ns top ∙ first-least q ns (length-pattern (opened used s x) sorts q p.1 ∙ omega (arith, h.also_wide)) (λ j l. h.anew (suc j) (omega arith) (omega (arith, h.also_wide)))
+          | inl top ↦ before-same x n q ns top ∙ first-least q ns (length-pattern_from (opened used s x) sorts q p.1 ∙ omega (arith, h.also_wide)) (λ j l. h.anew (suc j) (omega arith) (omega (arith, h.also_wide)))
           | inr other ↦ elim other [
             | inl below ↦ absurd (omega arith)
             | inr above ↦ before-greater x n q ns above
@@ -194,4 +181,4 @@ later-newest sorts classes h = filter-listed _ (λ _. false) (patterns sorts) (�
 -- from the first pattern on there are all
 pub left-first : (sorts zeros : List ℕ) → length zeros ≡ length sorts → ((j : ℕ) → j < length zeros → slice_index zeros j ≡ 0) → left sorts zeros ≡ patterns sorts
 left-first sorts zeros e h = filter-listed _ (λ _. true) (patterns sorts)
-    (λ q l. ap not (first-least q zeros (length-pattern unused sorts q (listed_pattern sorts q l) ∙ sym e) h)) ∙ filter-all (patterns sorts)
+    (λ q l. ap not (first-least q zeros (length-pattern sorts q (listed_pattern sorts q l) ∙ sym e) h)) ∙ filter-all (patterns sorts)

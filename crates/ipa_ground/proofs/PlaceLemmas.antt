@@ -1,27 +1,24 @@
 -- Counting tuples and facts, and their places.
 use Rattle.std.proofs.Common.{◌≡◌, ℕ, zero, suc, ◌+◌, ◌*◌, ◌^◌, ◌<◌, ◌≤◌, List, [], ◌∷◌, ◌++◌, length, map, take, Some, refl, sym, ap, ◌∙◌, subst, arith, slice_get, get_or, set, replicate, ◌≢◌, add-one, inl, inr}
 use Rattle.std.specs.List.{slice_index}
-use Rattle.std.proofs.lemmas.List.{length-append, length-map, map-append, take_more, take_all, append-nil, append_assoc, length-take-le, get_or-set_same, get_or-set_other, length-set}
+use Rattle.std.proofs.lemmas.List.{length-append, length-map, map-append, take_more, take_all, length-take-le, get_or-set_same, get_or-set_other, length-set}
 use Rattle.std.proofs.lemmas.Grind.{pow_more}
 use Rattle.std.proofs.lemmas.Option.{slice_get_within, same_Some}
 use Rattle.std.proofs.lemmas.Nat.{mul-le}
 use Rattle.std.proofs.lemmas.Bool.{cases_lt}
 use Rattle.ipa_spec.specs.declared.predicates.Predicate.{Predicate}
-use Rattle.ipa_logic.specs.Facts.{Universe, size_of, IsFact}
+use Rattle.ipa_logic.specs.Facts.{Universe, IsFact}
 use Rattle.ipa_logic.specs.declared.facts.Fact.{Fact}
-use Rattle.ipa_ground.specs.Enumeration.{numbers, tuples, IsTuple, three, place_sizes, facts_of, facts_from, facts_over}
+use Rattle.ipa_ground.specs.Enumeration.{numbers, tuples, IsTuple, three, size_in, place_sizes, facts_of, facts_from, facts_over}
 use Rattle.ipa_ground.specs.ListLaws.{get-left, get-right, get-map}
 use Rattle.ipa_ground.specs.BranchLaws.{length-branches, get-branches}
-use Rattle.ipa_ground.specs.EnumerationLaws.{ArePlaced, placed_tuple}
+use Rattle.ipa_ground.specs.EnumerationLaws.{ArePlaced, placed_tuple, length-numbers}
+use Rattle.ipa_ground.specs.FactsLaws.{facts_from-push}
 use Rattle.ipa_ground.specs.Places.{tuple_count, tuple_place, AreStarts}
-
--- how many elements a place takes
-abbrev pub size_in : Universe → Predicate → ℕ → ℕ
-size_in universe p place = size_of universe (slice_index p.sorts place)
 
 -- the sizes of the first places
 abbrev pub first_sizes : Universe → Predicate → ℕ → List ℕ
-first_sizes universe p n = map (λ place. size_of universe (slice_index p.sorts place)) (numbers n)
+first_sizes universe p n = map (size_in universe p) (numbers n)
 
 pub first_sizes-none : (universe : Universe) (p : Predicate) → first_sizes universe p 0 ≡ []
 unfolding numbers
@@ -32,9 +29,7 @@ unfolding numbers
 first_sizes-more universe p n = ap (first_sizes universe p) (add-one n) ∙ map-append (size_in universe p) (numbers n) (n ∷ [])
 
 length-first_sizes : (universe : Universe) (p : Predicate) (n : ℕ) → length (first_sizes universe p n) ≡ n
-unfolding numbers
-length-first_sizes universe p zero = refl
-length-first_sizes universe p (suc n) = ap length (map-append (size_in universe p) (numbers n) (n ∷ [])) ∙ (length-append (first_sizes universe p n) (size_in universe p n ∷ []) ∙ omega (arith, length-first_sizes universe p n))
+length-first_sizes universe p n = length-map (numbers n) (size_in universe p) ∙ length-numbers n
 
 -- one size more
 pub tuple_count-push : (sizes : List ℕ) (size : ℕ) → tuple_count (sizes ++ size ∷ []) ≡ tuple_count sizes * size
@@ -64,14 +59,6 @@ get-tuples (size ∷ sizes) (x ∷ xs) h = get-branches (λ _. tuples sizes) siz
 
 pub length-facts_of : (number : ℕ) (p : Predicate) (universe : Universe) → length (facts_of number p universe) ≡ tuple_count (place_sizes p universe)
 length-facts_of number p universe = length-map (tuples (place_sizes p universe)) (λ (elements : List ℕ). record { predicate = number; args = three elements }) ∙ length-tuples (place_sizes p universe)
-
--- one predicate more
-pub facts_from-push : (number : ℕ) (ps : List Predicate) (p : Predicate) (universe : Universe) → facts_from number (ps ++ p ∷ []) universe ≡ facts_from number ps universe ++ facts_of (number + length ps) p universe
-facts_from-push number [] p universe = append-nil (facts_of number p universe) ∙ ap (λ n. facts_of n p universe) (omega arith)
-facts_from-push number (q ∷ ps) p universe =
-    ap (λ fs. facts_of number q universe ++ fs) (facts_from-push (number + 1) ps p universe)
-    ∙ (sym (append_assoc (facts_of number q universe) (facts_from (number + 1) ps universe) (facts_of (number + 1 + length ps) p universe))
-    ∙ ap (λ n. (facts_of number q universe ++ facts_from (number + 1) ps universe) ++ facts_of n p universe) (omega arith))
 
 -- the places of the first so many predicates and of one more
 pub starts-next : (ps : List Predicate) (universe : Universe) (n : ℕ) (p : Predicate) → n < length ps → p ≡ get_or ps n p
@@ -111,13 +98,6 @@ get-facts_of number p universe f short same h =
 -- at most three sizes of at most twelve
 pub power-step : (n count size : ℕ) → count ≤ 12 ^ n → size ≤ 12 → count * size ≤ 12 ^ (n + 1)
 power-step n count size l s = rw (pow_more 12 n) (mul-le count size (12 ^ n) 12 l s)
-
-pub power-below : (n : ℕ) → n ≤ 3 → 12 ^ n ≤ 1728
-power-below zero l = omega arith
-power-below (suc zero) l = omega arith
-power-below (suc (suc zero)) l = omega arith
-power-below (suc (suc (suc zero))) l = omega arith
-power-below (suc (suc (suc (suc n)))) l = absurd (omega arith)
 
 pub place-step : (n number size x : ℕ) → number < 12 ^ n → size ≤ 12 → x < 12 → number * size + x < 12 ^ (n + 1)
 place-step n number size x l s h = rw (pow_more 12 n) (let bound : number * size ≤ number * 12 = mul-le number size number 12 (omega arith) s in omega arith)

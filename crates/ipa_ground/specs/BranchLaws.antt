@@ -8,10 +8,10 @@
 use Rattle.std.proofs.Common.{◌≡◌, ℕ, zero, suc, ◌+◌, ◌*◌, ◌<◌, List, [], ◌∷◌, ◌++◌, length, map, Some, refl, sym, ap, ◌∙◌, subst, arith, inl, inr, slice_get}
 use Rattle.std.specs.List.Sorted.{IsStrictlySortedBy}
 use Rattle.std.specs.Ordering.{nat_cmp}
-use Rattle.std.specs.Cmp.{nat_cmp_total, tied_itself}
+use Rattle.std.specs.Cmp.{nat_cmp_is, nat_cmp_total, tied_itself}
 use Rattle.std.specs.Cmp.Lexicographic.{slice_cmp}
 use Rattle.std.specs.declared.cmp.Ordering.TheVariants.{Less}
-use Rattle.std.proofs.lemmas.Bool.{lt-ltb, cases_lt}
+use Rattle.std.proofs.lemmas.Bool.{cases_lt}
 use Rattle.std.proofs.lemmas.List.{append-nil, length-append, length-map}
 use Rattle.std.proofs.lemmas.List.Concat.{flat_map-append}
 use Rattle.ipa_ground.specs.Enumeration.{numbers, branches, IsListed}
@@ -19,7 +19,7 @@ use Rattle.ipa_ground.specs.ListLaws.{get-left, get-right, get-map, Listed-appen
 
 -- a lesser number comes first
 pub less-from_lt : (x y : ℕ) → x < y → nat_cmp x y ≡ Less
-less-from_lt x y l = rw (lt-ltb x y l) refl
+less-from_lt x y l = sym (nat_cmp_is x y Less l)
 
 module _ (of : ℕ → List (List ℕ)) where
   -- the lists that begin with x

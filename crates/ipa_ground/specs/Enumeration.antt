@@ -5,7 +5,8 @@
 --   tuples sizes          all lists with an element below each size, in lexicographic order
 --   IsTuple sizes xs      xs has an element below each size
 --   three elements        elements in the places of a fact
---   place_sizes p universe       how many elements each place of a predicate takes
+--   size_in universe p place     how many elements a place of a predicate takes
+--   place_sizes p universe       the same of all its places
 --   facts_of number p universe   the facts of a predicate
 --   facts_over ps universe       the facts of all predicates, in the order of facts
 --   AreShort ps           each predicate has at most three places
@@ -41,9 +42,13 @@ three (a ∷ []) = a ∷ 0 ∷ 0 ∷ []
 three (a ∷ b ∷ []) = a ∷ b ∷ 0 ∷ []
 three (a ∷ b ∷ c ∷ _) = a ∷ b ∷ c ∷ []
 
--- how many elements each place of a predicate takes
+-- how many elements a place of a predicate takes
+abbrev pub size_in : Universe → Predicate → ℕ → ℕ
+size_in universe p place = size_of universe (slice_index p.sorts place)
+
+-- how many elements each of its places takes
 abbrev pub place_sizes : Predicate → Universe → List ℕ
-place_sizes p universe = map (λ place. size_of universe (slice_index p.sorts place)) (numbers p.arity)
+place_sizes p universe = map (size_in universe p) (numbers p.arity)
 
 -- the facts of the predicate of this number, in order
 abbrev pub facts_of : ℕ → Predicate → Universe → List Fact

@@ -1,11 +1,13 @@
--- The enumerations of tuples and of facts are complete, and stand strictly in order.
+-- The enumerations of tuples and of a predicate's facts are complete, and stand strictly in order.
 --
 --   Listed-tuples, listed_tuple    a tuple is listed, and what is listed is a tuple
 --   Rises-tuples                   tuples stand in lexicographic order
 --   Listed-has, has-Listed         a fact of a list, and one that is listed
---   facts_over-fact, fact-facts_over   the listed facts are the facts over the universe
---   has-facts_over                 the same, of the test
---   IsRising-facts_over            they stand strictly in the order of facts
+--   ArePlaced                      elements that stand in the places of a fact
+--   placed_tuple, tuple_placed     they are a tuple, and the other way round
+--   length-numbers, length-place_sizes   there are n numbers below n, and as many sizes as places
+--   Listed-facts_of, listed_facts_of     the listed facts of a predicate are those whose elements are placed
+--   Rises-facts_of                 they stand strictly in the order of facts
 use Rattle.std.proofs.Common.{◌≡◌, ℕ, zero, suc, ◌+◌, ◌<◌, ◌≤◌, true, List, [], ◌∷◌, length, map, take, Some, refl, sym, ap, ◌∙◌, subst, arith, inl, inr, slice_get}
 use Rattle.std.specs.List.{slice_index}
 use Rattle.std.specs.List.Sorted.{IsStrictlySortedBy}
@@ -18,10 +20,10 @@ use Rattle.std.proofs.lemmas.List.{length-append, length-map}
 use Rattle.std.proofs.lemmas.List.Elements.{length_all_zip}
 use Rattle.std.proofs.lemmas.Option.{same_Some}
 use Rattle.ipa_spec.specs.declared.predicates.Predicate.{Predicate}
-use Rattle.ipa_logic.specs.Facts.{Universe, size_of, fact_cmp, has, IsRising}
+use Rattle.ipa_logic.specs.Facts.{Universe, fact_cmp, has, IsRising}
 use Rattle.ipa_logic.specs.FactLaws.{same_fact, fact_itself}
 use Rattle.ipa_logic.specs.declared.facts.Fact.{Fact}
-use Rattle.ipa_ground.specs.Enumeration.{numbers, tuples, IsTuple, three, place_sizes, facts_of, IsListed}
+use Rattle.ipa_ground.specs.Enumeration.{numbers, tuples, IsTuple, three, size_in, place_sizes, facts_of, IsListed}
 use Rattle.ipa_ground.specs.ListLaws.{Listed-cons, Listed-map, listed_map, Rises-map, Rises-one}
 use Rattle.ipa_ground.specs.BranchLaws.{Listed-branches, listed_branch, Rises-branches}
 
@@ -177,32 +179,32 @@ unfolding numbers
 length-numbers zero = refl
 length-numbers (suc n) = length-append (numbers n) (n ∷ []) ∙ (ap (λ m. m + 1) (length-numbers n) ∙ omega arith)
 
+-- there are as many sizes as places
+pub length-place_sizes : (p : Predicate) (universe : Universe) → length (place_sizes p universe) ≡ p.arity
+length-place_sizes p universe = length-map (numbers p.arity) (size_in universe p) ∙ length-numbers p.arity
+
 -- the facts of a predicate stand in order
 pub Rises-facts_of : (number : ℕ) (p : Predicate) (universe : Universe) → p.arity ≤ 3 → IsRising (facts_of number p universe)
 Rises-facts_of number p universe short = Rises-map (slice_cmp nat_cmp) fact_cmp (λ (elements : List ℕ). record { predicate = number; args = three elements }) (tuples (place_sizes p universe))
     (λ a b l m less.
-    let wide : length (place_sizes p universe) ≡ p.arity = length-map (numbers p.arity) (λ place. size_of universe (slice_index p.sorts place)) ∙ length-numbers p.arity in
+    let wide = length-place_sizes p universe in
     let first : length a ≡ length (place_sizes p universe) = length-tuple (place_sizes p universe) a (listed_tuple (place_sizes p universe) a l) in
     let second : length b ≡ length (place_sizes p universe) = length-tuple (place_sizes p universe) b (listed_tuple (place_sizes p universe) b m) in
     rw (tied_itself nat_cmp_total number) (three-less a b (first ∙ sym second) (omega arith) less))
     (Rises-tuples (place_sizes p universe))
 
--- the fact of the elements of a tuple
-fact_with : ℕ → List ℕ → Fact
-fact_with number elements = record { predicate = number; args = three elements }
-
 -- the listed facts of a predicate are those of its number whose elements are placed
 pub listed_facts_of : (number : ℕ) (p : Predicate) (universe : Universe) (f : Fact) → p.arity ≤ 3 → IsListed (facts_of number p universe) f
-    → (f.predicate ≡ number) × ArePlaced p.arity (λ place. size_of universe (slice_index p.sorts place)) f.args
+    → (f.predicate ≡ number) × ArePlaced p.arity (size_in universe p) f.args
 listed_facts_of number p universe f short h =
     let m = listed_map (λ (elements : List ℕ). record { predicate = number; args = three elements }) (tuples (place_sizes p universe)) f h in
-    let placed = tuple_placed p.arity (λ place. size_of universe (slice_index p.sorts place)) m.from short (listed_tuple (place_sizes p universe) m.from m.listed) in
-    (sym (ap (λ (g : Fact). g.predicate) m.is), subst (ArePlaced p.arity (λ place. size_of universe (slice_index p.sorts place))) (ap (λ (g : Fact). g.args) m.is) placed)
+    let placed = tuple_placed p.arity (size_in universe p) m.from short (listed_tuple (place_sizes p universe) m.from m.listed) in
+    (sym (ap (λ (g : Fact). g.predicate) m.is), subst (ArePlaced p.arity (size_in universe p)) (ap (λ (g : Fact). g.args) m.is) placed)
 
 pub Listed-facts_of : (number : ℕ) (p : Predicate) (universe : Universe) (f : Fact) → p.arity ≤ 3 → f.predicate ≡ number
-    → ArePlaced p.arity (λ place. size_of universe (slice_index p.sorts place)) f.args → IsListed (facts_of number p universe) f
+    → ArePlaced p.arity (size_in universe p) f.args → IsListed (facts_of number p universe) f
 Listed-facts_of number p universe f short same h =
-    let tuple = placed_tuple p.arity (λ place. size_of universe (slice_index p.sorts place)) f.args short h in
+    let tuple = placed_tuple p.arity (size_in universe p) f.args short h in
     let here = Listed-map (λ (elements : List ℕ). record { predicate = number; args = three elements }) (tuples (place_sizes p universe)) (take p.arity f.args) (Listed-tuples (place_sizes p universe) (take p.arity f.args) tuple.0) in
     let is : record { predicate = number; args = three (take p.arity f.args) } ≡ f = λ i. record { predicate = sym same i; args = tuple.1 i } in
     subst (IsListed (facts_of number p universe)) is here

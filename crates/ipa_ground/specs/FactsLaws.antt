@@ -1,26 +1,38 @@
 -- The enumeration of facts is complete, and stands strictly in order.
 --
+--   AreShort-from_fit                  the predicates of a fit specification are short
+--   facts_from-push                    the facts of one predicate more
 --   facts_over-fact, fact-facts_over   the listed facts are the facts over the universe
 --   has-facts_over, facts_over-has     the same, of the test
 --   IsRising-facts_over                they stand strictly in the order of facts
-use Rattle.std.proofs.Common.{◌≡◌, ℕ, zero, suc, ◌+◌, ◌<◌, true, List, [], ◌∷◌, Some, refl, sym, ap, ◌∙◌, subst, arith, inl, inr, ◌↔◌, slice_get}
-use Rattle.std.specs.List.{slice_index}
+use Rattle.std.proofs.Common.{◌≡◌, ℕ, zero, suc, ◌+◌, ◌<◌, true, List, [], ◌∷◌, ◌++◌, length, Some, refl, sym, ap, ◌∙◌, subst, arith, inl, inr, ◌↔◌, slice_get}
+use Rattle.std.proofs.lemmas.List.{append-nil, append_assoc}
 use Rattle.std.proofs.lemmas.Option.{same_Some}
+use Rattle.ipa_spec.specs.Fits.{IsFit}
 use Rattle.ipa_spec.specs.declared.predicates.Predicate.{Predicate}
-use Rattle.ipa_logic.specs.Facts.{Universe, size_of, fact_cmp, IsFact, has, IsRising}
+use Rattle.ipa_spec.specs.declared.specification.Specification.{Specification}
+use Rattle.ipa_logic.specs.Facts.{Universe, fact_cmp, IsFact, has, IsRising}
 use Rattle.ipa_logic.specs.declared.facts.Fact.{Fact}
-use Rattle.ipa_ground.specs.Enumeration.{facts_of, facts_from, facts_over, AreShort, IsListed}
+use Rattle.ipa_ground.specs.Enumeration.{size_in, facts_of, facts_from, facts_over, AreShort, IsListed}
 use Rattle.ipa_ground.specs.ListLaws.{Listed-append_left, Listed-append_right, listed_in, Rises-append, Rises-none}
 use Rattle.ipa_ground.specs.BranchLaws.{less-from_lt}
 use Rattle.ipa_ground.specs.EnumerationLaws.{ArePlaced, listed_facts_of, Listed-facts_of, Rises-facts_of, Listed-has, has-Listed}
 
+-- the predicates of a fit specification are short
+pub AreShort-from_fit : (s : Specification) → IsFit s → AreShort s.predicates
+AreShort-from_fit s fit = record { short = fit.arities }
+
+-- the facts of one predicate more
+pub facts_from-push : (number : ℕ) (ps : List Predicate) (p : Predicate) (universe : Universe) → facts_from number (ps ++ p ∷ []) universe ≡ facts_from number ps universe ++ facts_of (number + length ps) p universe
+facts_from-push number [] p universe = append-nil (facts_of number p universe) ∙ ap (λ n. facts_of n p universe) (omega arith)
+facts_from-push number (q ∷ ps) p universe =
+    ap (λ fs. facts_of number q universe ++ fs) (facts_from-push (number + 1) ps p universe)
+    ∙ (sym (append_assoc (facts_of number q universe) (facts_from (number + 1) ps universe) (facts_of (number + 1 + length ps) p universe))
+    ∙ ap (λ n. (facts_of number q universe ++ facts_from (number + 1) ps universe) ++ facts_of n p universe) (omega arith))
+
 -- the predicates after the first are short where all are
 short-tail : (p : Predicate) (ps : List Predicate) → AreShort (p ∷ ps) → AreShort ps
 short-tail p ps h = record { short = λ n q e. h.short (suc n) q e }
-
--- how many elements a place takes
-abbrev place_size : Universe → Predicate → ℕ → ℕ
-place_size universe p place = size_of universe (slice_index p.sorts place)
 
 -- a fact of one of these predicates, which are numbered from here on
 pub record IsFactFrom (number : ℕ) (ps : List Predicate) (universe : Universe) (f : Fact) : Type 0 where
@@ -28,7 +40,7 @@ pub record IsFactFrom (number : ℕ) (ps : List Predicate) (universe : Universe)
   pub predicate : Predicate
   pub declared : slice_get ps place ≡ Some predicate
   pub numbered : f.predicate ≡ number + place
-  pub placed : ArePlaced predicate.arity (λ place. size_of universe (slice_index predicate.sorts place)) f.args
+  pub placed : ArePlaced predicate.arity (size_in universe predicate) f.args
 
 pub listed_facts_from : (number : ℕ) (ps : List Predicate) (universe : Universe) (f : Fact) → AreShort ps → IsListed (facts_from number ps universe) f → IsFactFrom number ps universe f
 listed_facts_from number [] universe f short h = cc
@@ -40,7 +52,7 @@ listed_facts_from number (p ∷ ps) universe f short h = elim (listed_in (facts_
 ]
 
 pub Listed-facts_from : (number : ℕ) (ps : List Predicate) (universe : Universe) (f : Fact) (k : ℕ) (p : Predicate) → AreShort ps → slice_get ps k ≡ Some p → f.predicate ≡ number + k
-    → ArePlaced p.arity (place_size universe p) f.args → IsListed (facts_from number ps universe) f
+    → ArePlaced p.arity (size_in universe p) f.args → IsListed (facts_from number ps universe) f
 Listed-facts_from number [] universe f k p short e same h = cc
 Listed-facts_from number (q ∷ ps) universe f zero p short e same h =
     let first : q ≡ p = same_Some q p e in

@@ -3,18 +3,24 @@
 --   test_of-listed      the fact at a place is true where the variable of that place is
 --   test_of-unlisted    no other fact is true
 --   test_of-assigned    the assignment of a test makes true the listed facts of the test
-use Rattle.std.proofs.Common.{◌≡◌, ℕ, zero, suc, ◌+◌, Bool, true, false, ◌||◌, ◌&&◌, List, [], ◌∷◌, ◌++◌, length, map, Some, refl, sym, ap, ◌∙◌, subst, arith, inl, inr, slice_get}
+--   lit-same, lit-range the literal of a fact is true as the fact is, or as its opposite, and of a fact over the universe
+use Rattle.std.proofs.Common.{◌≡◌, ℕ, zero, suc, ◌+◌, ◌<◌, Bool, true, false, not, cond, ◌||◌, ◌&&◌, List, [], ◌∷◌, ◌++◌, length, map, Some, refl, sym, ap, ◌∙◌, subst, arith, inl, inr, slice_get}
 use Rattle.std.specs.Ordering.{is_eq}
 use Rattle.std.specs.declared.cmp.Ordering.TheVariants.{Less}
 use Rattle.std.proofs.lemmas.Bool.{cases_Bool, or_parts, cond-true, cond-false}
 use Rattle.std.proofs.lemmas.List.{append_assoc, get_or_at, length_push}
-use Rattle.std.proofs.lemmas.Option.{same_Some}
-use Rattle.ipa_logic.specs.Facts.{fact_cmp, has, IsRising}
+use Rattle.std.proofs.lemmas.Option.{same_Some, slice_get_within}
+use Rattle.ipa_spec.specs.declared.specification.Specification.{Specification}
+use Rattle.ipa_logic.specs.Facts.{Universe, fact_cmp, has, IsRising}
 use Rattle.ipa_logic.specs.FactLaws.{same_fact, fact_itself, same-turned}
 use Rattle.ipa_logic.specs.declared.facts.Fact.{Fact}
-use Rattle.ipa_sat.specs.Formula.{value}
+use Rattle.ipa_sat.specs.Formula.{value, literal_true as lit_true}
+use Rattle.ipa_sat.specs.declared.cnf.Lit.{Lit}
+use Rattle.ipa_ground.specs.Enumeration.{facts_over, AreShort}
+use Rattle.ipa_ground.specs.FactsLaws.{IsRising-facts_over}
 use Rattle.ipa_ground.specs.ListLaws.{Rises-head, Rises-tail}
 use Rattle.ipa_ground.specs.Grounding.{test_of}
+use Rattle.ipa_ground.specs.GroundingSteps.{IsLitOf}
 
 -- a fact below another is not that fact
 other-below : (f g : Fact) → fact_cmp g f ≡ Less → is_eq (fact_cmp f g) ≡ false
@@ -57,3 +63,13 @@ test_of-assigned front back t (g ∷ gs) f = elim (cases_Bool (is_eq (fact_cmp f
       ∙ (test_of-assigned (front ++ t g ∷ []) back t gs f
       ∙ sym (ap (λ (b : Bool). (b || has gs f) && t f) other))))
 ]
+
+-- the literal of a fact, or of its opposite
+pub lit-same : (s : Specification) (universe : Universe) (first : ℕ) (a : List Bool) (f : Fact) (positive : Bool) (lit : Lit) → AreShort s.predicates → IsLitOf s universe first f positive lit
+    → lit_true a lit ≡ cond positive (test_of first a (facts_over s.predicates universe) f) (not (test_of first a (facts_over s.predicates universe) f))
+lit-same s universe first a f positive lit short h =
+    let here : test_of first a (facts_over s.predicates universe) f ≡ value a lit.var = test_of-listed first a (facts_over s.predicates universe) h.place f (IsRising-facts_over s.predicates universe short) h.there ∙ ap (value a) (sym h.var_is) in
+    (λ i. cond (h.sign i) (value a lit.var) (not (value a lit.var))) ∙ (λ i. cond positive (sym here i) (not (sym here i)))
+
+pub lit-range : (s : Specification) (universe : Universe) (first : ℕ) (f : Fact) (positive : Bool) (lit : Lit) → IsLitOf s universe first f positive lit → lit.var < first + length (facts_over s.predicates universe)
+lit-range s universe first f positive lit h = let within = slice_get_within (facts_over s.predicates universe) h.place f h.there in omega (arith, h.var_is)

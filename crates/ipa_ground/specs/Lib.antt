@@ -5,10 +5,14 @@ pub mod BranchLaws
 pub mod EnumerationLaws
 pub mod FactsLaws
 pub mod Places
+pub mod PlaceLaws
 pub mod Instances
+pub mod InstanceLaws
+pub mod FormulaLaws
 pub mod Grounding
 pub mod GroundingSteps
 pub mod GroundingLaws
+pub mod ClassLaws
 pub mod SamePattern
 pub mod PatternLaws
 pub mod PatternValues

@@ -1,17 +1,28 @@
 -- Laws of lists that are made of other lists: what stands in them, and their order.
 --
 --   get-left, get-right       what stands in the first or the second of two joined lists
+--   replicate-zero            a list of zeros reads as 0 everywhere
 --   Listed-append_left, Listed-append_right, listed_in   the same of what is listed
 --   Listed-map, listed_map    what is listed of a mapped list
 --   Rises c xs                each stands below all that follow it
 --   Rises-append, Rises-map, Rises-filter   of joined, mapped and filtered lists
-use Rattle.std.proofs.Common.{◌≡◌, ℕ, zero, suc, ◌+◌, List, [], ◌∷◌, ◌++◌, length, map, Some, refl, ap, ◌∙◌, subst, arith, inl, inr, ◌⊎◌, slice_get}
-use Rattle.std.specs.List.{AllByRecursion}
+use Rattle.std.proofs.Common.{◌≡◌, ℕ, zero, suc, ◌+◌, List, [], ◌∷◌, ◌++◌, length, map, replicate, Some, refl, ap, ◌∙◌, subst, arith, inl, inr, ◌⊎◌, slice_get}
+use Rattle.std.specs.List.{AllByRecursion, slice_index}
 use Rattle.std.specs.List.Sorted.{IsStrictlySortedBy}
 use Rattle.std.specs.declared.cmp.Ordering.{Ordering}
 use Rattle.std.specs.declared.cmp.Ordering.TheVariants.{Less}
-use Rattle.std.proofs.lemmas.Option.{same_Some}
+use Rattle.std.specs.Option.{option_map}
+use Rattle.std.proofs.lemmas.Bool.{cases_lt}
+use Rattle.std.proofs.lemmas.List.{get_or-replicate, get_or_past, length-replicate}
+use Rattle.std.proofs.lemmas.Option.{same_Some, slice_get-map}
 use Rattle.ipa_ground.specs.Enumeration.{IsListed}
+
+-- a list of zeros reads as 0 everywhere
+pub replicate-zero : (n k : ℕ) → slice_index (replicate n 0) k ≡ 0
+replicate-zero n k = elim (cases_lt k n) [
+  | inl inside ↦ get_or-replicate n k 0 0 inside
+  | inr past ↦ get_or_past (replicate n 0) k 0 (let long : length (replicate {A = ℕ} n 0) ≡ n = length-replicate n 0 in omega arith)
+]
 
 module _ {X : Type 0} where
   -- what stands in the first of two joined lists
@@ -60,9 +71,7 @@ module _ {X : Type 0} where
 
 module _ {X Y : Type 0} (f : X → Y) where
   pub get-map : (xs : List X) (k : ℕ) (x : X) → slice_get xs k ≡ Some x → slice_get (map f xs) k ≡ Some (f x)
-  get-map [] k x e = cc
-  get-map (y ∷ xs) zero x e = ap (λ (z : X). Some (f z)) (same_Some y x e)
-  get-map (y ∷ xs) (suc k) x e = get-map xs k x e
+  get-map xs k x e = slice_get-map f xs k ∙ ap (option_map f) e
 
   pub Listed-map : (xs : List X) (x : X) → IsListed xs x → IsListed (map f xs) (f x)
   Listed-map xs x h = record { place = h.place; there = get-map xs h.place x h.there }

@@ -2,7 +2,8 @@
 --
 --   Listed-patterns, listed_pattern   a pattern is listed, and what is listed is one
 --   Rises-patterns                    patterns stand in lexicographic order, each once
-use Rattle.std.proofs.Common.{◌≡◌, ℕ, zero, suc, ◌+◌, List, [], ◌∷◌, Some, refl, subst, arith, slice_get}
+--   length-pattern                    a pattern has a class for each variable
+use Rattle.std.proofs.Common.{◌≡◌, ℕ, zero, suc, ◌+◌, List, [], ◌∷◌, length, Some, refl, ap, subst, arith, slice_get}
 use Rattle.std.specs.List.Sorted.{IsStrictlySortedBy}
 use Rattle.std.specs.Ordering.{nat_cmp}
 use Rattle.std.specs.Cmp.Lexicographic.{slice_cmp}
@@ -46,3 +47,13 @@ listed_pattern sorts classes h = listed_pattern_from unused sorts classes h
 
 pub Rises-patterns : (sorts : List ℕ) → IsStrictlySortedBy (slice_cmp nat_cmp) (patterns sorts)
 Rises-patterns sorts = Rises-patterns_from unused sorts
+
+-- a pattern has a class for each variable
+pub length-pattern_from : (used : Universe) (sorts classes : List ℕ) → IsPatternFrom used sorts classes → length classes ≡ length sorts
+length-pattern_from used [] [] p = refl
+length-pattern_from used [] (class ∷ classes) p = absurd p
+length-pattern_from used (sort ∷ sorts) [] p = absurd p
+length-pattern_from used (sort ∷ sorts) (class ∷ classes) p = ap suc (length-pattern_from (opened used sort class) sorts classes p.1)
+
+pub length-pattern : (sorts classes : List ℕ) → IsPattern sorts classes → length classes ≡ length sorts
+length-pattern sorts classes p = length-pattern_from unused sorts classes p

@@ -1,23 +1,19 @@
 -- For all elements of the variables there is exactly one pattern with the same equalities.
 --
---   size-opened, size-other     the classes in use after one more variable
 --   class-within                a variable's class is in use after all
 --   class-taken                 a class in use is that of some variable
 --   pattern_for                 there is a pattern whose classes stand for the elements
 --   one-renamed                 there is only one
 --   same-equalities             it has the same equalities
 --   one-pattern                 and is the only one that has
-use Rattle.std.proofs.Common.{◌≡◌, ℕ, zero, suc, ◌+◌, ◌<◌, ◌≤◌, ◌≢◌, Bool, true, false, ◌==◌, cond, List, [], ◌∷◌, length, Some, refl, sym, ap, ◌∙◌, subst, arith, inl, inr, ◌⊎◌, slice_get, set}
+use Rattle.std.proofs.Common.{◌≡◌, ℕ, zero, suc, ◌+◌, ◌<◌, ◌≤◌, ◌≢◌, Bool, true, false, ◌==◌, cond, List, [], ◌∷◌, length, Some, refl, sym, ap, ◌∙◌, subst, arith, inl, inr, ◌⊎◌, slice_get}
 use Rattle.std.specs.List.{slice_index}
 use Rattle.std.proofs.lemmas.Bool.{cases_lt, cases_eq, eq-eqb, ne_eqb, cond-true, cond-false}
-use Rattle.std.proofs.lemmas.List.{get_or-set_same, get_or-set_other, length-set, get_or-replicate, get_or_past}
+use Rattle.std.proofs.lemmas.List.{get_or-replicate, get_or_past}
 use Rattle.std.proofs.lemmas.Option.{same_Some}
 use Rattle.ipa_logic.specs.Facts.{Universe, size_of}
+use Rattle.ipa_ground.specs.ClassLaws.{AreSortsOf, length-opened, opened-in_use, size-opened, size-other, size-grows, size-after}
 use Rattle.ipa_ground.specs.Patterns.{AreSorts, unused, opened, IsPatternFrom, IsPattern, used_after, pattern_universe, SameEqualities, Renames, IsTaken, PatternFor}
-
--- the sorts are those of the universe
-abbrev pub AreSortsOf : Universe → List ℕ → Type 0
-AreSortsOf used sorts = (i sort : ℕ) → slice_get sorts i ≡ Some sort → sort < length used
 
 -- the classes in use stand for different elements
 abbrev pub AreApart : Universe → (ℕ → ℕ → ℕ) → Type 0
@@ -29,48 +25,6 @@ pub record RenamesFrom (used : Universe) (before : ℕ → ℕ → ℕ) (sorts c
   pub extends : (sort class : ℕ) → class < size_of used sort → to sort class ≡ before sort class
   pub places : (i sort : ℕ) → slice_get sorts i ≡ Some sort → to sort (slice_index classes i) ≡ element i
   pub apart : AreApart (used_after used sorts classes) to
-
--- opening a class keeps the number of sorts
-pub length-opened : (used : Universe) (sort class : ℕ) → length (opened used sort class) ≡ length used
-length-opened used sort class = elim (cases_eq class (size_of used sort)) [
-  | inl same ↦ (ap length (cond-true (class == size_of used sort) _ used (eq-eqb class (size_of used sort) same)) ∙ length-set used sort (size_of used sort + 1))
-  | inr other ↦ ap length (cond-false (class == size_of used sort) (set used sort (size_of used sort + 1)) _ (ne_eqb class (size_of used sort) other))
-]
-
--- a new class is in use afterwards
-pub size-opened : (used : Universe) (sort class : ℕ) → sort < length used → class ≡ size_of used sort → size_of (opened used sort class) sort ≡ size_of used sort + 1
-size-opened used sort class l same =
-    ap (λ (u : Universe). size_of u sort) (cond-true (class == size_of used sort) _ used (eq-eqb class (size_of used sort) same)) ∙ get_or-set_same used sort (size_of used sort + 1) 0 l
-
--- one that was in use opens nothing
-pub opened-in_use : (used : Universe) (sort class : ℕ) → class < size_of used sort → opened used sort class ≡ used
-opened-in_use used sort class l = cond-false (class == size_of used sort) (set used sort (size_of used sort + 1)) _ (ne_eqb class (size_of used sort) (λ e. absurd (omega arith)))
-
--- other sorts stay
-pub size-other : (used : Universe) (sort class other : ℕ) → other ≢ sort → size_of (opened used sort class) other ≡ size_of used other
-size-other used sort class other n = elim (cases_eq class (size_of used sort)) [
-  | inl same ↦ (ap (λ (u : Universe). size_of u other) (cond-true (class == size_of used sort) _ used (eq-eqb class (size_of used sort) same)) ∙ get_or-set_other used sort other (size_of used sort + 1) 0 n)
-  | inr differs ↦ ap (λ (u : Universe). size_of u other) (cond-false (class == size_of used sort) (set used sort (size_of used sort + 1)) _ (ne_eqb class (size_of used sort) differs))
-]
-
--- no class is closed
-pub size-grows : (used : Universe) (sort class other : ℕ) → sort < length used → class ≤ size_of used sort → size_of used other ≤ size_of (opened used sort class) other
-size-grows used sort class other inside l = elim (cases_eq other sort) [
-  | inl same ↦ elim (cases_lt class (size_of used sort)) [
-    | inl in_use ↦ (let stays : size_of (opened used sort class) other ≡ size_of used other = ap (λ (u : Universe). size_of u other) (opened-in_use used sort class in_use) in omega arith)
-    | inr new ↦ (let grows : size_of (opened used sort class) sort ≡ size_of used sort + 1 = size-opened used sort class inside (omega arith) in
-        subst (λ (q : ℕ). size_of used q ≤ size_of (opened used sort class) q) (sym same) (omega arith))
-  ]
-  | inr differs ↦ (let stays : size_of (opened used sort class) other ≡ size_of used other = size-other used sort class other differs in omega arith)
-]
-
-pub size-after : (used : Universe) (sorts classes : List ℕ) (other : ℕ) → AreSortsOf used sorts → IsPatternFrom used sorts classes → size_of used other ≤ size_of (used_after used sorts classes) other
-size-after used [] classes other h p = omega arith
-size-after used (sort ∷ sorts) [] other h p = absurd p
-size-after used (sort ∷ sorts) (class ∷ classes) other h p =
-    let first = size-grows used sort class other (h 0 sort refl) p.0 in
-    let later = size-after (opened used sort class) sorts classes other (λ i s e. omega (arith, length-opened used sort class, h (suc i) s e)) p.1 in
-    omega arith
 
 -- a variable's class is in use after it
 pub class-opened : (used : Universe) (sort class : ℕ) → sort < length used → class ≤ size_of used sort → class < size_of (opened used sort class) sort

@@ -1,6 +1,7 @@
 -- The state of the facts that an assignment makes true, fact by fact.
 use Rattle.std.proofs.Common.{◌≡◌, ℕ, ◌+◌, ◌<◌, ◌≤◌, Bool, true, false, ◌||◌, ◌&&◌, List, [], ◌∷◌, ◌++◌, length, take, refl, sym, ap, ◌∙◌, get_or, inl, inr, ◌⊎◌}
 use Rattle.std.specs.Ordering.{is_eq}
+use Rattle.std.proofs.Math.Bool.{or-false}
 use Rattle.std.proofs.lemmas.Bool.{cases_Bool, and_left}
 use Rattle.std.proofs.lemmas.List.{take_more, take_all}
 use Rattle.std.proofs.lemmas.Option.{slice_get_read}
@@ -25,11 +26,7 @@ first-none facts a = record { rising = Rises-none fact_cmp; same = λ f. refl }
 has-more : (facts : List Fact) (n : ℕ) (g f : Fact) → n < length facts → g ≡ get_or facts n g → has (take (n + 1) facts) f ≡ (has (take n facts) f || is_eq (fact_cmp f g))
 has-more facts n g f l at =
     ap (λ (gs : List Fact). has gs f) (take_more facts n g l ∙ ap (λ (x : Fact). take n facts ++ x ∷ []) (sym at))
-    ∙ (has-append (take n facts) (g ∷ []) f ∙ ap (λ (b : Bool). has (take n facts) f || b) (or_false (is_eq (fact_cmp f g))))
-  where
-    or_false : (b : Bool) → (b || false) ≡ b
-    or_false true = refl
-    or_false false = refl
+    ∙ (has-append (take n facts) (g ∷ []) f ∙ ap (λ (b : Bool). has (take n facts) f || b) (or-false (is_eq (fact_cmp f g))))
 
 -- the next fact is true as its variable is
 next-value : (facts : List Fact) (a : List Bool) (n : ℕ) (g f : Fact) → IsRising facts → n < length facts → g ≡ get_or facts n g → is_eq (fact_cmp f g) ≡ true → test_of 6 a facts f ≡ value a (6 + n)

@@ -15,11 +15,12 @@ use Rattle.ipa_ground.specs.Enumeration.{AreShort, IsListed, facts_over}
 use Rattle.ipa_ground.specs.FactsLaws.{IsRising-facts_over, has-facts_over}
 use Rattle.ipa_ground.specs.Grounding.{test_of}
 use Rattle.ipa_ground.specs.GroundingLaws.{test_of-listed, test_of-unlisted, test_of-assigned}
+use Rattle.ipa_ground.specs.InstanceLaws.{ClauseFits-declared}
 use Rattle.ipa_models.specs.Answers.{StandsFor}
 use Rattle.ipa_models.specs.Models.{AsDemanded, Meets, IsFirstMeeting}
 use Rattle.ipa_models.specs.Questions.{state_of, fact_truths, AreTied, IsAnswer, IsQuestion}
 use Rattle.ipa_models.specs.declared.demands.Demand.{Demand}
-use Rattle.ipa_models.proofs.QuestionLemmas.{filter-short, short-predicates, clause-fits}
+use Rattle.ipa_models.proofs.QuestionLemmas.{filter-few, short-predicates}
 
 -- the order is that of the rest behind equal values
 before-cons : (b : Bool) (xs ys : List Bool) → IsBefore xs ys → IsBefore (b ∷ xs) (b ∷ ys)
@@ -78,7 +79,7 @@ module _ (s : Specification) (universe : Universe) (values : List ℕ) (ls : Lis
   length-front t = length-map (filter is_of_fact ls) (literal_true s.predicates t values)
 
   length-first : (t : Fact → Bool) → length ls ≤ 6 → length (front t ++ spare) ≡ 6
-  length-first t few = omega (arith, length-append (front t) spare, length-front t, length-replicate (6 - length (filter is_of_fact ls)) false, filter-short is_of_fact ls)
+  length-first t few = omega (arith, length-append (front t) spare, length-front t, length-replicate (6 - length (filter is_of_fact ls)) false, filter-few ls)
 
   assigned-split : (t : Fact → Bool) → assigned t ≡ (front t ++ spare) ++ (map t all_facts ++ [])
   assigned-split t = sym (append_assoc (front t) spare (map t all_facts)) ∙ ap (λ (ys : List Bool). (front t ++ spare) ++ ys) (sym (append-nil (map t all_facts)))
@@ -191,10 +192,10 @@ module _ (s : Specification) (universe : Universe) (values : List ℕ) (ls : Lis
 pub none-found : (s : Specification) (universe : Universe) (values : List ℕ) (c : Clause) (demands : List Demand) (f : Formula) → IsListed s.clauses c → IsQuestion s universe values c.literals demands f
     → IsUnsatisfiable f → (state : List Fact) → Meets s universe demands state → ⊥
 none-found s universe values c demands f listed q none =
-    none-meets s universe values c.literals demands f (short-predicates s universe q.numbered) (clause-fits s universe c q.numbered listed).literal_count q none
+    none-meets s universe values c.literals demands f (short-predicates s universe q.numbered) (ClauseFits-declared s listed.place c q.numbered.faultless listed.there).literal_count q none
 
 pub first-found : (s : Specification) (universe : Universe) (values : List ℕ) (c : Clause) (demands : List Demand) (f : Formula) (facts : List Fact) (a : List Bool) (state : List Fact) → IsListed s.clauses c
     → IsQuestion s universe values c.literals demands f → IsLeast f a → facts ≡ facts_over s.predicates universe → StandsFor facts a state → IsFirstMeeting s universe values c.literals demands state
 first-found s universe values c demands f facts a state listed q least same stands =
-    first-meets s universe values c.literals demands f a state (short-predicates s universe q.numbered) (clause-fits s universe c q.numbered listed).literal_count q least
+    first-meets s universe values c.literals demands f a state (short-predicates s universe q.numbered) (ClauseFits-declared s listed.place c q.numbered.faultless listed.there).literal_count q least
     (subst (λ (fs : List Fact). StandsFor fs a state) same stands)

@@ -5,27 +5,22 @@ use Rattle.std.proofs.lemmas.Bool.{cases_lt}
 use Rattle.std.proofs.lemmas.Grind.{pow_more}
 use Rattle.std.proofs.lemmas.List.{length-append, length-map, map-append, append-nil, append_assoc, take_more, length-take-le, drop_more, drop_all, get_or-map, get_or_append_left, get_or_push, get_or_past, set_past}
 use Rattle.std.proofs.lemmas.Nat.{mul-le}
+use Rattle.std.proofs.lemmas.Simd.{map-map}
 use Rattle.ipa_spec.specs.declared.specification.Specification.{Specification}
 use Rattle.ipa_spec.specs.declared.predicates.Predicate.{Predicate}
 use Rattle.ipa_spec.specs.Limits.{IsFaultless}
 use Rattle.ipa_spec.specs.FaultlessFits.{IsFit-from_faultless}
 use Rattle.ipa_logic.specs.Facts.{Universe, size_of}
 use Rattle.ipa_logic.specs.declared.facts.Fact.{Fact}
-use Rattle.ipa_ground.specs.Enumeration.{numbers, branches, tuples, three, place_sizes, facts_of, facts_from, facts_over}
-use Rattle.ipa_ground.specs.EnumerationLaws.{length-numbers}
+use Rattle.ipa_ground.specs.Enumeration.{numbers, branches, tuples, three, size_in, place_sizes, facts_of, facts_from, facts_over}
+use Rattle.ipa_ground.specs.EnumerationLaws.{length-numbers, length-place_sizes}
+use Rattle.ipa_ground.specs.FactsLaws.{facts_from-push}
 use Rattle.ipa_ground.specs.BranchLaws.{branch, branches-suc, length-branches}
 use Rattle.ipa_ground.specs.Instances.{filled}
 use Rattle.ipa_ground.specs.Places.{AreSmall}
+use Rattle.ipa_ground.specs.PlaceLaws.{power-below}
 use Rattle.ipa_models.specs.Listing.{with_rest, facts_with, facts_below}
 use Rattle.ipa_models.specs.Questions.{IsNumbered}
-
--- how many elements a place takes
-abbrev pub size_in : Universe → Predicate → ℕ → ℕ
-size_in universe p place = size_of universe (slice_index p.sorts place)
-
-map-map : {X Y Z : Type 0} (g : Y → Z) (f : X → Y) (xs : List X) → map g (map f xs) ≡ map (λ (x : X). g (f x)) xs
-map-map g f [] = refl
-map-map g f (x ∷ xs) = ap (λ zs. g (f x) ∷ zs) (map-map g f xs)
 
 -- the numbers below n, by place
 get-numbers : (n k d : ℕ) → k < n → get_or (numbers n) k d ≡ k
@@ -36,19 +31,16 @@ get-numbers (suc n) k d l = elim (cases_lt k n) [
   | inr ge ↦ (let same : k ≡ n = omega arith in get_or_push (numbers n) n d k (length-numbers n ∙ sym same) ∙ sym same)
 ]
 
-length-sizes : (p : Predicate) (universe : Universe) → length (place_sizes p universe) ≡ p.arity
-length-sizes p universe = length-map (numbers p.arity) (size_in universe p) ∙ length-numbers p.arity
-
 -- the sizes from a place on
 drop-sizes : (p : Predicate) (universe : Universe) (at : ℕ) → at < p.arity → drop at (place_sizes p universe) ≡ size_in universe p at ∷ drop (at + 1) (place_sizes p universe)
 drop-sizes p universe at l =
-    drop_more (place_sizes p universe) at 0 (omega (arith, length-sizes p universe))
+    drop_more (place_sizes p universe) at 0 (omega (arith, length-place_sizes p universe))
     ∙ ap (λ n. n ∷ drop (at + 1) (place_sizes p universe))
     (get_or-map (size_in universe p) (numbers p.arity) at 0 0 (omega (arith, length-numbers p.arity)) ∙ ap (size_in universe p) (get-numbers p.arity at 0 l))
 
 -- behind the last place stands the fact itself
 pub facts_with-none : (fact : Fact) (p : Predicate) (universe : Universe) (at : ℕ) → at ≡ p.arity → facts_with fact at (drop at (place_sizes p universe)) ≡ fact ∷ []
-facts_with-none fact p universe at e = ap (facts_with fact at) (drop_all at (place_sizes p universe) (omega (arith, length-sizes p universe)))
+facts_with-none fact p universe at e = ap (facts_with fact at) (drop_all at (place_sizes p universe) (omega (arith, length-place_sizes p universe)))
 
 -- no element yet
 facts_below-none : (fact : Fact) (at : ℕ) (sizes : List ℕ) → facts_below fact at 0 sizes ≡ []
@@ -96,13 +88,6 @@ facts_with-all : (number : ℕ) (p : Predicate) (universe : Universe) → facts_
 facts_with-all number p universe = λ i. map (λ (rest : List ℕ). record { predicate = number; args = three-filled rest i }) (tuples (place_sizes p universe))
 
 -- one predicate more
-facts_from-push : (number : ℕ) (ps : List Predicate) (p : Predicate) (universe : Universe) → facts_from number (ps ++ p ∷ []) universe ≡ facts_from number ps universe ++ facts_of (number + length ps) p universe
-facts_from-push number [] p universe = append-nil (facts_of number p universe) ∙ ap (λ n. facts_of n p universe) (omega arith)
-facts_from-push number (q ∷ ps) p universe =
-    ap (λ fs. facts_of number q universe ++ fs) (facts_from-push (number + 1) ps p universe)
-    ∙ (sym (append_assoc (facts_of number q universe) (facts_from (number + 1) ps universe) (facts_of (number + 1 + length ps) p universe))
-    ∙ ap (λ n. (facts_of number q universe ++ facts_from (number + 1) ps universe) ++ facts_of n p universe) (omega arith))
-
 pub predicates-next : (ps : List Predicate) (universe : Universe) (n : ℕ) (p : Predicate) (now next : List Fact) → n < length ps → p ≡ get_or ps n p → now ≡ facts_over (take n ps) universe
     → next ≡ now ++ facts_with (record { predicate = n; args = 0 ∷ 0 ∷ 0 ∷ [] }) 0 (drop 0 (place_sizes p universe)) → next ≡ facts_over (take (n + 1) ps) universe
 predicates-next ps universe n p now next l at h e =
@@ -120,13 +105,6 @@ tuples-few f small (n ∷ ns) =
     let bound : f n * length (tuples (map f ns)) ≤ 12 * 12 ^ length ns = mul-le (f n) (length (tuples (map f ns))) 12 (12 ^ length ns) (small n) (tuples-few f small ns) in
     let same : length ns + 1 ≡ length (n ∷ ns) = omega arith in
     subst (λ m. length (tuples (map f (n ∷ ns))) ≤ 12 ^ m) same (omega (arith, pow_more 12 (length ns)))
-
-power-below : (n : ℕ) → n ≤ 3 → 12 ^ n ≤ 1728
-power-below zero l = omega arith
-power-below (suc zero) l = omega arith
-power-below (suc (suc zero)) l = omega arith
-power-below (suc (suc (suc zero))) l = omega arith
-power-below (suc (suc (suc (suc n)))) l = absurd (omega arith)
 
 size-small : (universe : Universe) (sort : ℕ) → AreSmall universe → size_of universe sort ≤ 12
 size-small universe sort small = elim (cases_lt sort (length universe)) [

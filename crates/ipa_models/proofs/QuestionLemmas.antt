@@ -1,50 +1,29 @@
 -- What the clauses of a question ask for.
 use Rattle.std.proofs.Common.{◌≡◌, ℕ, ◌+◌, ◌<◌, ◌≤◌, Bool, true, false, not, ◌||◌, cond, ◌↔◌, List, [], ◌∷◌, ◌++◌, length, map, filter, take, Some, refl, sym, ap, ◌∙◌, subst, arith, slice_get, get_or, inl, inr}
-use Rattle.std.proofs.lemmas.Bool.{cases_lt, false≢true, cond_both}
+use Rattle.std.proofs.lemmas.Bool.{cases_lt, false≢true}
 use Rattle.std.proofs.lemmas.List.{append-nil, get_or_append_left, get_or_push, get_or_past, length_push, length-map, map-append, take_more, take_all, length-take-le}
 use Rattle.std.proofs.lemmas.List.Elements.{All-nil, All-push, filter-append}
-use Rattle.std.proofs.lemmas.Option.{slice_get_within, slice_get_read}
+use Rattle.std.proofs.lemmas.List.Sums.{length-filter, count_by-le-length}
 use Rattle.ipa_spec.specs.declared.specification.Specification.{Specification}
-use Rattle.ipa_spec.specs.declared.predicates.Predicate.{Predicate}
-use Rattle.ipa_spec.specs.declared.clauses.Clause.{Clause}
 use Rattle.ipa_spec.specs.declared.clauses.Atom.{Atom}
 use Rattle.ipa_spec.specs.declared.clauses.Literal.{Literal}
-use Rattle.ipa_spec.specs.declared.clauses.Literal.TheVariants.{Holds, Fails, Same, Differ}
-use Rattle.ipa_spec.specs.Actions.{sorts_of_vars}
-use Rattle.ipa_spec.specs.Fits.{LiteralFits}
+use Rattle.ipa_spec.specs.declared.clauses.Literal.TheVariants.{Holds, Fails}
 use Rattle.ipa_spec.specs.FaultlessFits.{IsFit-from_faultless}
 use Rattle.ipa_sat.specs.Formula.{Formula, Satisfies, value, clause_true, literal_true as lit_true}
 use Rattle.ipa_sat.specs.declared.cnf.Lit.{Lit}
 use Rattle.ipa_logic.specs.Facts.{Universe}
-use Rattle.ipa_logic.specs.FitLaws.{IsFact-fact_of}
-use Rattle.ipa_logic.specs.Truth.{IsOver, literal_true, fact_of}
+use Rattle.ipa_logic.specs.Truth.{literal_true, fact_of}
 use Rattle.ipa_logic.specs.Touches.{is_of_fact}
 use Rattle.ipa_logic.specs.declared.facts.Fact.{Fact}
-use Rattle.ipa_ground.specs.Enumeration.{IsListed, AreShort, facts_over}
-use Rattle.ipa_ground.specs.FactsLaws.{IsRising-facts_over}
+use Rattle.ipa_ground.specs.Enumeration.{AreShort, facts_over}
+use Rattle.ipa_ground.specs.FactsLaws.{AreShort-from_fit}
+use Rattle.ipa_ground.specs.FormulaLaws.{with_clause, satisfies-more, satisfies-less, satisfies-last}
 use Rattle.ipa_ground.specs.Grounding.{Grounds}
-use Rattle.ipa_ground.specs.GroundingLaws.{test_of-listed}
-use Rattle.ipa_ground.specs.Instances.{ClauseFits, FactFits}
+use Rattle.ipa_ground.specs.GroundingLaws.{lit-same, lit-range}
+use Rattle.ipa_ground.specs.GroundingSteps.{IsLitOf}
 use Rattle.ipa_models.specs.Models.{AsDemanded}
 use Rattle.ipa_models.specs.Questions.{state_of, IsNumbered, IsGrounded, Adds, fact_truths, AreTied, IsLiteralFor, IsLiteralOf, IsTied, TiesMore, IsQuestion}
 use Rattle.ipa_models.specs.declared.demands.Demand.{Demand}
-
--- a formula with one clause more
-abbrev pub with_clause : Formula → List Lit → Formula
-with_clause f lits = record f { clauses = f.clauses ++ lits ∷ [] }
-
-satisfies-more : (f : Formula) (lits : List Lit) (a : List Bool) → Satisfies f a → clause_true a lits ≡ true → Satisfies (with_clause f lits) a
-satisfies-more f lits a h t = record { total = h.total; clauses = All-push (λ c. clause_true a c ≡ true) f.clauses lits h.clauses t }
-
-satisfies-less : (f : Formula) (lits : List Lit) (a : List Bool) → Satisfies (with_clause f lits) a → Satisfies f a
-satisfies-less f lits a h = record {
-  total = h.total;
-  clauses = λ k d l. subst (λ (c : List Lit). clause_true a c ≡ true) (get_or_append_left f.clauses (lits ∷ []) d k l) (h.clauses k d (omega (arith, length_push f.clauses lits)));
-}
-
-satisfies-last : (f : Formula) (lits : List Lit) (a : List Bool) → Satisfies (with_clause f lits) a → clause_true a lits ≡ true
-satisfies-last f lits a h =
-    subst (λ (c : List Lit). clause_true a c ≡ true) (get_or_push f.clauses lits [] (length f.clauses) refl) (h.clauses (length f.clauses) [] (omega (arith, length_push f.clauses lits)))
 
 -- a formula with more asked
 adds-clause : (f : Formula) (lits : List Lit) → Adds (λ a. clause_true a lits ≡ true) f (with_clause f lits)
@@ -187,11 +166,9 @@ filter-none ls l e = filter-append is_of_fact ls (l ∷ []) ∙ (ap (λ (b : Boo
 filter-one : (ls : List Literal) (l : Literal) → is_of_fact l ≡ true → filter is_of_fact (ls ++ l ∷ []) ≡ filter is_of_fact ls ++ l ∷ []
 filter-one ls l e = filter-append is_of_fact ls (l ∷ []) ∙ ap (λ (b : Bool). filter is_of_fact ls ++ cond b (l ∷ []) []) e
 
-pub filter-short : {X : Type 0} (p : X → Bool) (xs : List X) → length (filter p xs) ≤ length xs
-filter-short p [] = omega arith
-filter-short p (x ∷ xs) =
-    let rest = filter-short p xs in
-    cond_both (p x) (x ∷ filter p xs) (filter p xs) (λ ys. length ys ≤ length (x ∷ xs)) (λ _. omega arith) (λ _. omega arith)
+-- there are no more fact literals than literals
+pub filter-few : (ls : List Literal) → length (filter is_of_fact ls) ≤ length ls
+filter-few ls = omega (arith, length-filter is_of_fact ls, count_by-le-length is_of_fact ls)
 
 module _ (s : Specification) (universe : Universe) (values : List ℕ) where
   -- the truth of a literal under an assignment
@@ -236,14 +213,13 @@ module _ (s : Specification) (universe : Universe) (values : List ℕ) where
   pub tied-all : (ls : List Literal) (n : ℕ) (base f g : Formula) → length ls ≤ 6 → IsTied s universe values ls n base f → Adds (AreDenied n 6) f g
       → Adds (λ a. AreTied 6 a (fact_truths s.predicates values ls (state_of s universe a))) base g
   tied-all ls n base f g few h d =
-      let short = filter-short is_of_fact ls in
       adds-same (λ a. AreTied n a (fact_truths s.predicates values ls (state_of s universe a)) × AreDenied n 6 a) (λ a. AreTied 6 a (fact_truths s.predicates values ls (state_of s universe a))) base g
-      (λ a. tied-padded n a (fact_truths s.predicates values ls (state_of s universe a)) (omega (arith, h.count)) (length-map (filter is_of_fact ls) (truth a) ∙ sym h.count))
+      (λ a. tied-padded n a (fact_truths s.predicates values ls (state_of s universe a)) (omega (arith, h.count, filter-few ls)) (length-map (filter is_of_fact ls) (truth a) ∙ sym h.count))
       (adds-both (λ a. AreTied n a (fact_truths s.predicates values ls (state_of s universe a))) (AreDenied n 6) base f g h.adds d)
 
   -- no more variables are taken than literals are read
   pub tied-few : (ls : List Literal) (k n : ℕ) (f g : Formula) → k ≤ length ls → IsTied s universe values (take k ls) n f g → n ≤ k
-  tied-few ls k n f g l h = omega (arith, h.count, filter-short is_of_fact (take k ls), length-take-le k ls l)
+  tied-few ls k n f g l h = omega (arith, h.count, filter-few (take k ls), length-take-le k ls l)
 
   pub tied-end : (items ls : List Literal) (k n : ℕ) (base f g : Formula) → items ≡ ls → length items ≤ k → length ls ≤ 6 → IsTied s universe values (take k items) n base f → Adds (AreDenied n 6) f g
       → Adds (λ a. AreTied 6 a (fact_truths s.predicates values ls (state_of s universe a))) base g
@@ -252,14 +228,17 @@ module _ (s : Specification) (universe : Universe) (values : List ℕ) where
 
 -- the literal of a fact
 pub short-predicates : (s : Specification) (universe : Universe) → IsNumbered s universe → AreShort s.predicates
-short-predicates s universe h = record { short = (IsFit-from_faultless s h.faultless).arities }
+short-predicates s universe h = AreShort-from_fit s (IsFit-from_faultless s h.faultless)
 
 pub literal-for : (s : Specification) (universe : Universe) (f : Fact) (positive : Bool) (number : ℕ) → IsNumbered s universe → slice_get (facts_over s.predicates universe) number ≡ Some f
     → IsLiteralFor s universe f positive (lit_of (6 + number) positive)
 literal-for s universe f positive number h there = record {
-  same = λ a. ap (λ (v : Bool). cond positive v (not v)) (sym (test_of-listed 6 a (facts_over s.predicates universe) number f (IsRising-facts_over s.predicates universe (short-predicates s universe h)) there));
-  range = omega (arith, slice_get_within (facts_over s.predicates universe) number f there);
+  same = λ a. lit-same s universe 6 a f positive (lit_of (6 + number) positive) (short-predicates s universe h) is;
+  range = lit-range s universe 6 f positive (lit_of (6 + number) positive) is;
 }
+  where
+    is : IsLitOf s universe 6 f positive (lit_of (6 + number) positive)
+    is = record { place = number; there = there; var_is = refl; sign = refl }
 
 pub literal-holds : (s : Specification) (universe : Universe) (values : List ℕ) (atom : Atom) (lit : Lit) → IsLiteralFor s universe (fact_of s.predicates values atom) true lit → IsLiteralOf s universe values (Holds atom) lit
 literal-holds s universe values atom lit h = record { of_fact = refl; same = h.same; range = h.range }
@@ -296,28 +275,6 @@ demanded-next s universe demands k d lit f g inside at is h =
       (demanded-bool (lit_true a lit) (state_of s universe a d.fact) d.holds (is.same a)).1
           (subst (λ (x : Demand). state_of s universe a x.fact ≡ x.holds) (get_or_push (take k demands) d d (length (take k demands)) refl) (t (length (take k demands)) d (omega (arith, length_push (take k demands) d)))),
     )
-
--- the clause of a faultless specification, and its literals
-pub clause-fits : (s : Specification) (universe : Universe) (c : Clause) → IsNumbered s universe → IsListed s.clauses c → ClauseFits s.predicates c
-clause-fits s universe c h listed =
-    let fit = IsFit-from_faultless s h.faultless in
-    record {
-      variable_count = fit.variable_count listed.place c listed.there;
-      literal_count = fit.literal_count listed.place c listed.there;
-      literals = λ k l e. fit.literals listed.place k c l listed.there e;
-    }
-
-fact-fits : (ps : List Predicate) (universe : Universe) (sorts values : List ℕ) (l : Literal) → LiteralFits ps sorts l → IsOver universe sorts values → FactFits ps universe values l
-fact-fits ps universe sorts values (Holds a) fits over = IsFact-fact_of ps universe sorts values a fits over
-fact-fits ps universe sorts values (Fails a) fits over = IsFact-fact_of ps universe sorts values a fits over
-fact-fits ps universe sorts values (Same v w) fits over = tt
-fact-fits ps universe sorts values (Differ v w) fits over = tt
-
-pub fact-fits_at : (ps : List Predicate) (universe : Universe) (values : List ℕ) (c : Clause) (k : ℕ) (l : Literal) (items : List Literal) → ClauseFits ps c → IsOver universe (sorts_of_vars c.vars) values
-    → items ≡ c.literals → k < length items → l ≡ get_or items k l → FactFits ps universe values l
-fact-fits_at ps universe values c k l items fits over same inside at =
-    fact-fits ps universe (sorts_of_vars c.vars) values l
-    (fits.literals k l (subst (λ (xs : List Literal). slice_get xs k ≡ Some l) same (slice_get_read items (length items) k l refl inside at))) over
 
 -- the formula that asks for the clauses alone
 pub grounded : (s : Specification) (universe : Universe) (facts : List Fact) (n : ℕ) (f g : Formula) → IsNumbered s universe → facts ≡ facts_over s.predicates universe → n ≡ length (facts_over s.predicates universe)

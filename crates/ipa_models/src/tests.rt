@@ -1,9 +1,8 @@
 //! First states over one cup, worked by hand.
-ghost use Rattle.std.specs.Prelude.{IsTrue, [], ◌∷◌};
+ghost use Rattle.std.specs.Prelude.{◌≡◌, IsTrue, true, [], ◌∷◌, All};
 ghost use Rattle.ipa_spec.specs.Actions.{sorts_of_vars};
-ghost use Rattle.ipa_logic.specs.Facts.{IsFact};
+ghost use Rattle.ipa_logic.specs.Facts.{has};
 ghost use Rattle.ipa_logic.specs.Truth.{IsOver};
-ghost use Rattle.ipa_models.specs.Models.{AreFacts};
 
 use crate::{Demand, Models};
 use ipa_logic::{Fact, State, Universe, size_of};
@@ -68,29 +67,18 @@ fn cups(alloc: Global) -> Result<Spec, Fail> {
     Ok(spec.ok().ok_or("a fault")?)
 }
 
-/// Whether the predicate has one place, and these are arguments for it over the universe.
-fn is_fact_of_one(spec: &Spec, universe: &Universe, predicate: u8, args: &[u16; 3]) -> bool
-    ensures { IsTrue result → IsFact spec.now.predicates universe.now.sizes (record { predicate = predicate; args = args.now }) }
+/// Whether the fact is one of these.
+fn is_listed(facts: &[Fact], fact: &Fact) -> bool
+    ensures { result ≡ has facts.now fact.now }
 {
-    let Some(declared) = spec.predicates().get(predicate as usize) else {
-        return false;
-    };
-    if declared.arity != 1 || args[1] != 0 || args[2] != 0 {
-        return false;
-    }
-    args[0] < size_of(universe, declared.sorts[0])
+    facts.iter().any(|other| fact.cmp(other).is_eq())
 }
 
-/// Whether each demand is of such a fact.
-fn are_facts_of_one(spec: &Spec, universe: &Universe, demands: &[Demand]) -> bool
-    ensures { IsTrue result → AreFacts spec.now.predicates universe.now.sizes demands.now }
+/// Whether each demand is of one of these facts.
+fn are_listed(facts: &[Fact], demands: &[Demand]) -> bool
+    ensures { IsTrue result → All (λ demand. has facts.now demand.fact ≡ true) demands.now }
 {
-    for demand in demands {
-        if !is_fact_of_one(spec, universe, demand.fact.predicate, &demand.fact.args) {
-            return false;
-        }
-    }
-    true
+    demands.iter().all(|demand| is_listed(facts, &demand.fact))
 }
 
 /// Whether the clause has one variable, and the universe an element for it.
@@ -121,7 +109,7 @@ fn first_over_one_cup(
         return Err(Fail::from("no clause"));
     };
     assert!(rt; has_first_element(&universe, clause));
-    assert!(rt; are_facts_of_one(spec, &universe, demands));
+    assert!(rt; are_listed(models.facts(), demands));
     Ok(models.first(rt.alloc(), clause, &[0; 4], demands)?)
 }
 

@@ -7,6 +7,6 @@ pub returns : goal.returns
 returns c = record {
   few = λ s n k clause fit g. few-drop s fit n k clause g;
   sorts = λ s n k clause fit g. sorts-drop s fit n k clause g;
-  small = λ s n k clause classes fit g is. AreSmall-pattern (drop_sorts s n clause) classes (sorts-drop s fit n k clause g) (few-drop s fit n k clause g) is;
+  small = λ s n k clause classes fit g is. AreSmall-pattern (drop_sorts s n clause) classes (few-drop s fit n k clause g);
   arguments = λ s n k clause classes fit g is. drop-arguments s fit n k clause g classes is;
 }

@@ -7,6 +7,6 @@ pub returns : goal.returns
 returns c = record {
   few = λ s left right k clause fit g. few-triple s fit left right k clause g;
   sorts = λ s left right k clause fit g. sorts-triple s fit left right k clause g;
-  small = λ s left right k clause classes fit g is. AreSmall-pattern (triple_sorts s left right clause) classes (sorts-triple s fit left right k clause g) (few-triple s fit left right k clause g) is;
+  small = λ s left right k clause classes fit g is. AreSmall-pattern (triple_sorts s left right clause) classes (few-triple s fit left right k clause g);
   arguments = λ s left right k clause classes fit g is. triple-arguments s fit left right k clause g classes is;
 }

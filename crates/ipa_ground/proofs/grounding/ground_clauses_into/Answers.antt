@@ -1,13 +1,9 @@
-use Rattle.std.proofs.Common.{◌≡◌, ℕ, ◌<◌, List, length, Some, slice_get, get_or, arith, refl, ap, subst, ◌∙◌}
-use Rattle.std.proofs.lemmas.Option.{slice_get_read}
+use Rattle.std.proofs.Common.{◌≡◌, length, arith, ap, ◌∙◌}
 use Rattle.ipa_spec.specs.FaultlessFits.{IsFit-from_faultless}
-use Rattle.ipa_spec.specs.declared.clauses.Clause.{Clause}
-use Rattle.ipa_ground.proofs.InstanceLemmas.{clause-fits, fills-clause, keeps-next, keeps-all}
+use Rattle.ipa_logic.specs.ClauseLaws.{clause_at}
+use Rattle.ipa_ground.specs.InstanceLaws.{ClauseFits-declared}
+use Rattle.ipa_ground.proofs.InstanceLemmas.{fills-clause, keeps-next, keeps-all}
 use Rattle.ipa_ground.proofs.grounding.ground_clauses_into.Goals as goal
-
--- the clause at an index of the loop
-clause_at : (items clauses : List Clause) (k : ℕ) (c : Clause) → items ≡ clauses → k < length items → c ≡ get_or items k c → slice_get clauses k ≡ Some c
-clause_at items clauses k c e l at = subst (λ (xs : List Clause). slice_get xs k ≡ Some c) e (slice_get_read items (length items) k c refl l at)
 
 pub ground_values-requires-clause-declared : goal.ground_values-requires-clause-declared
 ground_values-requires-clause-declared c = record {
@@ -16,7 +12,7 @@ ground_values-requires-clause-declared c = record {
 }
 
 pub ground_values-requires-clause-fits : goal.ground_values-requires-clause-fits
-ground_values-requires-clause-fits c = clause-fits c.args.spec.now c.loop-clause.clause-index c.clause-item.result c.clauses.ensures.faultless
+ground_values-requires-clause-fits c = ClauseFits-declared c.args.spec.now c.loop-clause.clause-index c.clause-item.result c.clauses.ensures.faultless
     (clause_at _ _ _ _ (c.as_slice-clause-items.ensures ∙ c.clauses.ensures.value) c.loop-clause-test.true c.clause-item.is)
 
 pub ground_values-requires-clause-over : goal.ground_values-requires-clause-over

@@ -1,8 +1,10 @@
 use Rattle.std.proofs.Common.{ap, subst, sym, ◌∙◌}
+use Rattle.std.proofs.lemmas.Result.{on_ok_weaker}
 use Rattle.ipa_sat.specs.Formula.{Formula}
+use Rattle.ipa_ground.specs.FormulaLaws.{with_clause}
 use Rattle.ipa_ground.specs.Grounding.{Narrows}
 use Rattle.ipa_ground.specs.GroundingSteps.{GroundsInstance}
-use Rattle.ipa_ground.proofs.FormulaLemmas.{with_clause, on_either, on_ok, narrows-same, narrows-instance, instance-added, instance-always}
+use Rattle.ipa_ground.proofs.FormulaLemmas.{on_either, narrows-same, narrows-instance, instance-added, instance-always}
 use Rattle.ipa_ground.proofs.grounding.ground_instance.Goals as goal
 
 pub returns-in-None-clause-ok : goal.returns-in-None-clause-ok
@@ -18,7 +20,8 @@ returns-in-Some-clause-narrows c =
 
 pub returns-in-Some-clause-ok : goal.returns-in-Some-clause-ok
 returns-in-Some-clause-ok c =
-    on_ok c.add_clause.result _ _ c.add_clause.ensures.ok
+    on_ok_weaker c.add_clause.result
     (λ added. subst (GroundsInstance c.args.grounder.now.spec.now c.args.grounder.now.universe.now.sizes c.args.grounder.now.first c.args.clause.now c.args.values.now)
     (sym (added ∙ ap (with_clause c.args.cnf.now) c.as_slice.ensures))
     (instance-added _ _ _ c.args.cnf.now c.args.clause.now c.args.values.now c.in-Some.lits c.in-Some.ensures))
+    c.add_clause.ensures.ok

@@ -1,6 +1,7 @@
 use Rattle.std.proofs.Common.{◌+◌, arith, sym, ap}
 use Rattle.ipa_ground.specs.Places.{tuple_count}
-use Rattle.ipa_ground.proofs.PlaceLemmas.{first_sizes-none, count-next, power-step, power-below}
+use Rattle.ipa_ground.specs.PlaceLaws.{power-below}
+use Rattle.ipa_ground.proofs.PlaceLemmas.{first_sizes-none, count-next, power-step}
 use Rattle.ipa_ground.proofs.numbering.count_of.Goals as goal
 
 pub loop-place-init : goal.loop-place-init

@@ -1,6 +1,7 @@
 use Rattle.std.proofs.Common.{◌+◌, [], arith, sym, ap}
 use Rattle.ipa_ground.specs.Places.{tuple_place}
-use Rattle.ipa_ground.proofs.PlaceLemmas.{first_sizes-none, number-next, place-step, power-below}
+use Rattle.ipa_ground.specs.PlaceLaws.{power-below}
+use Rattle.ipa_ground.proofs.PlaceLemmas.{first_sizes-none, number-next, place-step}
 use Rattle.ipa_ground.proofs.numbering.number_in.Goals as goal
 
 pub loop-place-init : goal.loop-place-init

@@ -1,8 +1,9 @@
 use Rattle.std.proofs.Common.{◌≡◌, false, [], ◌∷◌, sym, ap, subst, ◌∙◌}
 use Rattle.std.proofs.lemmas.Result.{on_ok_weaker}
 use Rattle.ipa_sat.specs.Formula.{Formula, value, literal_true}
+use Rattle.ipa_ground.specs.FormulaLaws.{with_clause}
 use Rattle.ipa_models.specs.Questions.{Adds}
-use Rattle.ipa_models.proofs.QuestionLemmas.{with_clause, lit_of, ties}
+use Rattle.ipa_models.proofs.QuestionLemmas.{lit_of, ties}
 use Rattle.ipa_models.proofs.question.tie.Goals as goal
 
 pub returns : goal.returns

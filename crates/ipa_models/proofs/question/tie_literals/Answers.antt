@@ -1,22 +1,14 @@
-use Rattle.std.proofs.Common.{◌≡◌, ℕ, ◌<◌, ◌≤◌, List, [], length, get_or, arith, ap}
+use Rattle.std.proofs.Common.{◌≤◌, length, arith, ap}
 use Rattle.std.proofs.lemmas.List.{get_or_default}
 use Rattle.std.proofs.lemmas.Result.{on_ok_weaker}
-use Rattle.ipa_spec.specs.declared.clauses.Literal.{Literal}
-use Rattle.ipa_spec.specs.declared.clauses.Literal.TheVariants.{Holds}
-use Rattle.ipa_models.proofs.QuestionLemmas.{fact-fits_at, tied-more, tied-few, tied-end}
+use Rattle.ipa_ground.specs.InstanceLaws.{FactFits-read}
+use Rattle.ipa_models.proofs.QuestionLemmas.{tied-more, tied-few, tied-end}
 use Rattle.ipa_models.proofs.question.tie_literals.Goals as goal
-
--- the literal that is read
-abbrev nothing : Literal
-nothing = Holds (record { predicate = 0; args = [] })
-
-at : (ls : List Literal) (k : ℕ) → k < length ls → get_or ls k nothing ≡ get_or ls k (get_or ls k nothing)
-at ls k l = get_or_default ls k nothing (get_or ls k nothing) l
 
 pub tie_literal-requires-clause-fact : goal.tie_literal-requires-clause-fact
 tie_literal-requires-clause-fact c =
-    fact-fits_at _ _ _ c.args.clause.now c.loop-literal.literal-index _ c.as_slice-literal-items.result.now c.requires.fits c.requires.over c.as_slice-literal-items.ensures c.loop-literal-test.true
-    (at _ _ c.loop-literal-test.true)
+    FactFits-read _ _ _ c.args.clause.now c.loop-literal.literal-index _ c.as_slice-literal-items.result.now c.requires.fits c.requires.over c.as_slice-literal-items.ensures c.loop-literal-test.true
+    (get_or_default _ _ _ _ c.loop-literal-test.true)
 
 pub tie_literal-requires-clause-few : goal.tie_literal-requires-clause-few
 tie_literal-requires-clause-few c =
@@ -25,7 +17,7 @@ tie_literal-requires-clause-few c =
     omega (arith, c.requires.fits.literal_count)
 
 pub loop-literal-preserved : goal.loop-literal-preserved
-loop-literal-preserved c = tied-more _ _ _ _ _ _ _ _ _ _ _ c.loop-literal-test.true (at _ _ c.loop-literal-test.true) c.loop-literal.invariant c.in_ok-count.ensures
+loop-literal-preserved c = tied-more _ _ _ _ _ _ _ _ _ _ _ c.loop-literal-test.true (get_or_default _ _ _ _ c.loop-literal-test.true) c.loop-literal.invariant c.in_ok-count.ensures
 
 pub deny_from-requires-clause-few : goal.deny_from-requires-clause-few
 deny_from-requires-clause-few c =

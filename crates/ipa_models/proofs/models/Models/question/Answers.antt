@@ -1,14 +1,16 @@
 use Rattle.std.proofs.Common.{sym, subst}
 use Rattle.ipa_sat.specs.Formula.{Formula}
 use Rattle.ipa_ground.specs.Enumeration.{IsListed}
+use Rattle.ipa_ground.specs.InstanceLaws.{ClauseFits-declared}
 use Rattle.ipa_models.specs.Models.{Setting, AreFacts}
 use Rattle.ipa_models.specs.Questions.{IsGrounded, IsQuestion}
-use Rattle.ipa_models.proofs.QuestionLemmas.{clause-fits, question}
+use Rattle.ipa_models.proofs.QuestionLemmas.{question}
 use Rattle.ipa_models.proofs.models.Models.question.Goals as goal
 
 pub tie_literals-requires-clause-fits : goal.tie_literals-requires-clause-fits
 tie_literals-requires-clause-fits c =
-    clause-fits _ _ c.args.clause.now c.self.invariant.numbered (subst (λ (x : Setting). IsListed x.spec.clauses c.args.clause.now) (sym c.self.view_is) c.requires.declared)
+    let listed : IsListed c.self.inside.spec.now.clauses c.args.clause.now = subst (λ (x : Setting). IsListed x.spec.clauses c.args.clause.now) (sym c.self.view_is) c.requires.declared in
+    ClauseFits-declared _ listed.place c.args.clause.now c.self.invariant.numbered.faultless listed.there
 
 pub ask-requires-clause-facts : goal.ask-requires-clause-facts
 ask-requires-clause-facts c = subst (λ (x : Setting). AreFacts x.spec.predicates x.universe c.args.demands.now) (sym c.self.view_is) c.requires.facts

@@ -1,0 +1,12 @@
+-- The bound on the number of a predicate's facts.
+--
+--   power-below   at most three sizes of at most twelve elements
+use Rattle.std.proofs.Common.{ℕ, zero, suc, ◌^◌, ◌≤◌, arith}
+
+-- at most three sizes of at most twelve elements
+pub power-below : (n : ℕ) → n ≤ 3 → 12 ^ n ≤ 1728
+power-below zero l = omega arith
+power-below (suc zero) l = omega arith
+power-below (suc (suc zero)) l = omega arith
+power-below (suc (suc (suc zero))) l = omega arith
+power-below (suc (suc (suc (suc n)))) l = absurd (omega arith)
