@@ -4,8 +4,9 @@
 --   answers-for, answers-need, answers-touch, answers-after   what the answers say of literals and facts
 use Rattle.std.proofs.Common.{◌≡◌, ◌↔◌, ℕ, zero, suc, Bool, true, false, not, ◌&&◌, ◌||◌, cond, List, [], ◌∷◌, ◌++◌, map, Some, refl, sym, ap, ◌∙◌, subst, slice_get}
 use Rattle.std.specs.List.{list_any, list_all, AllByRecursion}
-use Rattle.std.proofs.lemmas.Bool.{false≢true}
+use Rattle.std.proofs.lemmas.Bool.{false≢true, and_parts}
 use Rattle.std.proofs.lemmas.Option.{same_Some}
+use Rattle.ipa_spec.specs.FoundLaws.{list_any-false}
 use Rattle.ipa_spec.specs.declared.predicates.Predicate.{Predicate}
 use Rattle.ipa_spec.specs.declared.clauses.Literal.{Literal}
 use Rattle.ipa_spec.specs.declared.clauses.Literal.TheVariants.{Holds, Fails, Same, Differ}
@@ -36,35 +37,22 @@ each-map {X} P g (x ∷ xs) =
     let rest = each-map P g xs in
     ((λ h. each-item (λ (y : X). P (g y)) x xs h.0 (rest.0 h.1)), (λ h. (h 0 x refl, rest.1 (λ k y e. h (suc k) y e))))
 
--- both of two tests
-both-true : (a b : Bool) → (a && b) ≡ true → (a ≡ true) × (b ≡ true)
-both-true true true h = (refl, refl)
-both-true true false h = absurd (false≢true h)
-both-true false b h = absurd (false≢true h)
-
--- none of two tests
-none-true : (a b : Bool) → (a || b) ≡ false → (a ≡ false) × (b ≡ false)
-none-true false false h = (refl, refl)
-none-true false true h = absurd (false≢true (sym h))
-none-true true b h = absurd (false≢true (sym h))
-
 -- a test that all pass
 pub list_all-each : {X : Type 0} (p : X → Bool) (xs : List X) → (list_all p xs ≡ true) ↔ ((k : ℕ) (x : X) → slice_get xs k ≡ Some x → p x ≡ true)
 list_all-each p [] = ((λ h k x e. cc), (λ h. refl))
 list_all-each {X} p (x ∷ xs) =
     let rest = list_all-each p xs in (
-      (λ h. let b = both-true (p x) (list_all p xs) h in each-item (λ (y : X). p y ≡ true) x xs b.0 (rest.0 b.1)),
+      (λ h. let b = and_parts (p x) (list_all p xs) h in each-item (λ (y : X). p y ≡ true) x xs b.0 (rest.0 b.1)),
       (λ h. ap (λ (b : Bool). b && list_all p xs) (h 0 x refl) ∙ rest.1 (λ k y e. h (suc k) y e)),
     )
 
 -- a test that none passes
 pub list_any-none : {X : Type 0} (p : X → Bool) (xs : List X) → (list_any p xs ≡ false) ↔ ((k : ℕ) (x : X) → slice_get xs k ≡ Some x → p x ≡ false)
-list_any-none p [] = ((λ h k x e. cc), (λ h. refl))
-list_any-none {X} p (x ∷ xs) =
-    let rest = list_any-none p xs in (
-      (λ h. let b = none-true (p x) (list_any p xs) h in each-item (λ (y : X). p y ≡ false) x xs b.0 (rest.0 b.1)),
-      (λ h. ap (λ (b : Bool). b || list_any p xs) (h 0 x refl) ∙ rest.1 (λ k y e. h (suc k) y e)),
-    )
+list_any-none {X} p xs = (list_any-false p xs, none xs)
+  where
+    none : (xs : List X) → ((k : ℕ) (x : X) → slice_get xs k ≡ Some x → p x ≡ false) → list_any p xs ≡ false
+    none [] h = refl
+    none (x ∷ xs) h = ap (λ (b : Bool). b || list_any p xs) (h 0 x refl) ∙ none xs (λ k y e. h (suc k) y e)
 
 -- what is decided
 answers-decided : (t : Fact → Bool) (b : Bool) → Answers t (decided b) ↔ (b ≡ true)

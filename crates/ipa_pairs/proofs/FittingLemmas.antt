@@ -23,7 +23,7 @@ use Rattle.ipa_logic.specs.declared.facts.Fact.{Fact}
 use Rattle.ipa_logic.specs.declared.facts.Touch.{Touch}
 use Rattle.ipa_logic.specs.declared.facts.Touch.TheVariants as touch
 use Rattle.ipa_ground.specs.Enumeration.{facts_over, AreShort}
-use Rattle.ipa_ground.specs.FactsLaws.{facts_over-fact, fact-facts_over}
+use Rattle.ipa_ground.specs.FactsLaws.{facts_over-fact, fact-facts_over, AreShort-from_fit}
 use Rattle.ipa_models.specs.Models.{Meets, IsFirstMeeting}
 use Rattle.ipa_models.specs.declared.demands.Demand.{Demand}
 use Rattle.ipa_pairs.specs.Asked.{Answers, AnswersEach, IsOfFact, AreOfFacts, IsGathered, decided, asked_for, asked_by_touch, asked_by_need, asks_of_action, asks_of_literal, IsAsWanted, IsFitting, IsFirstFitting}
@@ -44,9 +44,6 @@ of-literal ps universe sorts values (Same v w) holds fits over = of-decided ps u
 of-literal ps universe sorts values (Differ v w) holds fits over = of-decided ps universe _
 
 -- the predicates of a fit specification are short
-pub fit-short : (s : Specification) → IsFit s → AreShort s.predicates
-fit-short s fit = record { short = fit.arities }
-
 module _ (s : Specification) (fit : IsFit s) (universe : Universe) (action : Action) (args : List ℕ) where
   abbrev touched : Fact → Asked
   touched f = asked_by_touch f (touch_of (effects_of s action) args f)
@@ -62,7 +59,7 @@ module _ (s : Specification) (fit : IsFit s) (universe : Universe) (action : Act
       from h =
           let parts = (each-append (Answers t) (map touched (facts_over s.predicates universe)) (map needed (needs_of s action))).0 h in
           let at : (f : Fact) → IsFact s.predicates universe f → (adds (effects_of s action) args f ≡ true → t f ≡ true) × (removes (effects_of s action) args f ≡ true → t f ≡ false)
-          = λ f is. let listed = fact-facts_over s.predicates universe f (fit-short s fit) is in
+          = λ f is. let listed = fact-facts_over s.predicates universe f (AreShort-from_fit s fit) is in
           (answers-touch t (effects_of s action) args f).0 ((each-map (Answers t) touched (facts_over s.predicates universe)).0 parts.0 listed.place f listed.there) in
           record {
             added = λ f is e. (at f is).0 e;
@@ -74,7 +71,7 @@ module _ (s : Specification) (fit : IsFit s) (universe : Universe) (action : Act
       to : StandsAfter s universe action args t → AnswersEach t (asks_of_action s universe action args)
       to h = (each-append (Answers t) (map touched (facts_over s.predicates universe)) (map needed (needs_of s action))).1 (
         (each-map (Answers t) touched (facts_over s.predicates universe)).1
-            (λ k f e. let is = facts_over-fact s.predicates universe f (fit-short s fit) (record { place = k; there = e }) in
+            (λ k f e. let is = facts_over-fact s.predicates universe f (AreShort-from_fit s fit) (record { place = k; there = e }) in
             (answers-touch t (effects_of s action) args f).1 (h.added f is, h.removed f is)),
         (each-map (Answers t) needed (needs_of s action)).1
             (λ k l e. (answers-need t s.predicates (effects_of s action) args l).1
@@ -90,7 +87,7 @@ module _ (s : Specification) (fit : IsFit s) (universe : Universe) (action : Act
     of-facts = (each-append (IsOfFact s.predicates universe) (asks_of_action s universe action args) (asks_of_literal s.predicates values l wanted)).1 (
       (each-append (IsOfFact s.predicates universe) (map touched (facts_over s.predicates universe)) (map needed (needs_of s action))).1 (
         (each-map (IsOfFact s.predicates universe) touched (facts_over s.predicates universe)).1
-            (λ k f e. of-touch f (touch_of (effects_of s action) args f) (facts_over-fact s.predicates universe f (fit-short s fit) (record { place = k; there = e }))),
+            (λ k f e. of-touch f (touch_of (effects_of s action) args f) (facts_over-fact s.predicates universe f (AreShort-from_fit s fit) (record { place = k; there = e }))),
         (each-map (IsOfFact s.predicates universe) needed (needs_of s action)).1
             (λ k need e. of-need need (touches_need s.predicates (effects_of s action) args need) (fit.needs action k need e)),
       ),

@@ -14,3 +14,7 @@ mod CollectLemmas
 mod CollectSteps
 mod WidthLemmas
 mod AcceptLemmas
+mod EarlierLemmas
+mod OneExampleLemmas
+mod OneDropLemmas
+mod OneAnalysisLemmas

@@ -3,9 +3,9 @@
 --   open-from       the tests of a conflict that look at no state leave its case open
 --   loss-from       the lost literal of a conflict is lost in its states
 --   conflict-from   an open case and a loss make a conflict
-use Rattle.std.proofs.Common.{◌≡◌, ℕ, Bool, true, false, not, ◌&&◌, ◌||◌, cond, List, None, Some, refl, sym, ap, ◌∙◌, subst, inl, inr, slice_get}
-use Rattle.std.specs.List.{list_any}
-use Rattle.std.proofs.lemmas.Bool.{false≢true, cases_Bool}
+use Rattle.std.proofs.Common.{◌≡◌, ℕ, Bool, true, false, not, ◌&&◌, ◌||◌, cond, List, None, Some, refl, sym, ap, ◌∙◌, subst, slice_get}
+use Rattle.std.proofs.lemmas.Bool.{false≢true}
+use Rattle.std.proofs.lemmas.Map.Keys.{any_passes_from_place}
 use Rattle.std.proofs.lemmas.Option.{same_Some}
 use Rattle.ipa_spec.specs.Actions.{effects_of}
 use Rattle.ipa_spec.specs.declared.specification.Specification.{Specification}
@@ -19,7 +19,6 @@ use Rattle.ipa_logic.specs.declared.facts.Fact.{Fact}
 use Rattle.ipa_pairs.specs.Asked.{IsAsWanted}
 use Rattle.ipa_pairs.specs.Openness.{IsOverCase, IsOpen, IsLossIn, can_be_lost, wanted_of}
 use Rattle.ipa_pairs.specs.declared.cases.Case.{Case}
-use Rattle.ipa_pairs.proofs.AskedLemmas.{list_any-none}
 
 -- what the parts of a loss are
 pub record LossParts (held spared falsified losing gone : Bool) : Type 0 where
@@ -43,13 +42,6 @@ parts-loss true false true true true p = absurd (false≢true (sym (p.after refl
 parts-loss true false false losing gone p = absurd (false≢true p.falsifies)
 parts-loss true true falsified losing gone p = absurd (false≢true (sym p.spares))
 parts-loss false spared falsified losing gone p = absurd (false≢true p.holds)
-
--- a literal of a list that passes a test
-some-passes : (p : Literal → Bool) (ls : List Literal) (k : ℕ) (l : Literal) → slice_get ls k ≡ Some l → p l ≡ true → list_any p ls ≡ true
-some-passes p ls k l e h = elim (cases_Bool (list_any p ls)) [
-  | inl passed ↦ passed
-  | inr failed ↦ absurd (false≢true (sym ((list_any-none p ls).0 failed k l e) ∙ h))
-]
 
 module _ (s : Specification) (c : Clause) (case : Case) where
   -- a conflict of the case
@@ -76,7 +68,7 @@ module _ (s : Specification) (c : Clause) (case : Case) where
     left_spares = h.left_spares;
     right_spares = h.right_spares;
     undecided = h.undecided;
-    some_lost = some-passes (can_be_lost s case) c.literals place h.lost h.lost_at (lost-of place l r h);
+    some_lost = any_passes_from_place (can_be_lost s case) c.literals place h.lost h.lost_at (lost-of place l r h);
   }
 
   as-wanted : (m : Literal) (t : Fact → Bool) → (loses s.predicates m ≡ true → literal_true s.predicates t case.values m ≡ false) → IsAsWanted s.predicates case.values m (wanted_of s.predicates m) t

@@ -42,13 +42,10 @@ is_less Greater h = cc
 pub less_at_head : (x y : ℕ) (xs ys : List ℕ) → x < y → slice_cmp nat_cmp (x ∷ xs) (y ∷ ys) ≡ Less
 less_at_head x y xs ys l = rw (less-from_lt x y l) refl
 
-same_number : (x : ℕ) → nat_cmp x x ≡ Equal
-same_number x = tied_itself nat_cmp_total x
-
 -- the same number at the head, and then less
 pub less_in_tail : (x y : ℕ) (xs ys : List ℕ) → x ≡ y → slice_cmp nat_cmp xs ys ≡ Less → slice_cmp nat_cmp (x ∷ xs) (y ∷ ys) ≡ Less
 less_in_tail x y xs ys e h =
-    subst (λ z. slice_cmp nat_cmp (x ∷ xs) (z ∷ ys) ≡ Less) e (rw (same_number x) h)
+    subst (λ z. slice_cmp nat_cmp (x ∷ xs) (z ∷ ys) ≡ Less) e (rw (tied_itself nat_cmp_total x) h)
 
 -- an action is known by its place
 pub same_action : (s : Specification) (a b : Action) → IsAction s a → IsAction s b → action_place s a ≡ action_place s b → a ≡ b

@@ -5,12 +5,13 @@
 --   tried-here                 the first one to come is a pattern, and P holds of none before it
 --   tried-next                 where P does not hold of it, it is passed
 --   tried-all                  where none is to come, P holds of no pattern
-use Rattle.std.proofs.Common.{◌≡◌, ℕ, zero, suc, true, List, [], ◌∷◌, ◌++◌, length, take, replicate, map, Some, refl, sym, ap, ◌∙◌, subst, inl, inr, ◌⊎◌, slice_get}
+use Rattle.std.proofs.Common.{◌≡◌, ℕ, zero, suc, true, List, [], ◌∷◌, ◌++◌, take, replicate, map, Some, refl, sym, ap, ◌∙◌, subst, inl, inr, ◌⊎◌, slice_get}
 use Rattle.std.specs.List.Sorted.{IsStrictlySortedBy}
 use Rattle.std.specs.Ordering.{nat_cmp, is_lt, ordering_reverse}
 use Rattle.std.specs.Cmp.{tied_itself}
 use Rattle.std.specs.Cmp.Lexicographic.{slice_cmp, nat_list_cmp_total}
 use Rattle.std.specs.declared.cmp.Ordering.TheVariants.{Less}
+use Rattle.std.proofs.Math.Seq.{take-append_seam}
 use Rattle.std.proofs.lemmas.Bool.{false≢true}
 use Rattle.std.proofs.lemmas.List.{append_assoc, append-nil}
 use Rattle.std.proofs.lemmas.Option.{same_Some}
@@ -20,7 +21,7 @@ use Rattle.ipa_ground.specs.Patterns.{IsPattern, patterns, padded}
 use Rattle.ipa_ground.specs.PatternLaws.{Listed-patterns, listed_pattern, Rises-patterns}
 use Rattle.ipa_ground.specs.PatternValues.{pattern_of, is_before}
 use Rattle.ipa_ground.specs.declared.patterns.Pattern.{Pattern}
-use Rattle.ipa_cases.specs.PartLaws.{length-pattern}
+use Rattle.ipa_ground.specs.PatternLaws.{length-pattern}
 use Rattle.ipa_pairs.specs.Patterned.{classes_of, IsPatternOf}
 
 -- of the patterns, those to come are the last, and P holds of none before them
@@ -35,15 +36,10 @@ pub record Tried (P : List ℕ → Type 0) (sorts : List ℕ) (to_come : List Pa
 pub record IsFirstOf (P : List ℕ → Type 0) (sorts classes : List ℕ) : Type 0 where
   pub first : (earlier : List ℕ) → IsPattern sorts earlier → is_before earlier classes ≡ true → P earlier → ⊥
 
--- the front of joined lists
-take-front : {X : Type 0} (xs ys : List X) → take (length xs) (xs ++ ys) ≡ xs
-take-front [] ys = refl
-take-front (x ∷ xs) ys = ap (λ (zs : List _). x ∷ zs) (take-front xs ys)
-
 -- the classes of a pattern's value are the pattern's
 pub classes_of-pattern_of : (sorts classes : List ℕ) → IsPattern sorts classes → classes_of (pattern_of sorts classes) ≡ classes
 classes_of-pattern_of sorts classes p =
-    ap (λ (n : ℕ). take n (padded classes)) (sym (length-pattern sorts classes p)) ∙ take-front classes (replicate _ 0)
+    ap (λ (n : ℕ). take n (padded classes)) (sym (length-pattern sorts classes p)) ∙ take-append_seam classes (replicate _ 0)
 
 -- nothing is before itself, and of two the one is before the other at most
 not_before : (a b : List ℕ) → slice_cmp nat_cmp a b ≡ Less → is_before b a ≡ true → ⊥

@@ -19,13 +19,13 @@ pub fn analyse(alloc: Global, spec: &Spec) -> Result<Analysis, PairFault>
     ensures analysis { IfOk result (IsAnalysis spec.now) }
     ensures fault { IfErr result (IsPairFault spec.now (IsDeclared spec.now)) }
 {
+    let mut grounded = List::new(alloc);
+    let mut conflicts = List::new(alloc);
+    let mut unsafe_drops = List::new(alloc);
     if let Some(wide) = first_wide(spec) {
         return Err(wide.fault());
     }
-    let mut grounded = List::new(alloc);
-    let mut conflicts = List::new(alloc);
     push_conflicts(alloc, spec, &mut grounded, &mut conflicts)?;
-    let mut unsafe_drops = List::new(alloc);
     push_unsafe_drops(alloc, spec, &mut grounded, &mut unsafe_drops)?;
     Ok(Analysis {
         conflicts,

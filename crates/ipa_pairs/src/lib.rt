@@ -18,6 +18,7 @@ mod fitting;
 mod gathering;
 mod groundings;
 mod hiding;
+mod laws;
 mod sorts;
 mod touches;
 mod triples;
@@ -26,6 +27,7 @@ mod width;
 pub use accepting::{Accepted, accept, accepted_actions_do_not_conflict};
 pub use analysing::{analyse, analyse_pair};
 pub use analysis::{AcceptFault, Analysis, Conflict, PairFault, UnsafeDrop};
+pub use laws::{one_analysis, one_refusal};
 
 #[cfg(test)]
 mod tests;
