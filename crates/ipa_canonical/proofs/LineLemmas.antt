@@ -4,17 +4,15 @@
 --   printable          so have all forms of a specification
 --   said               the line of such a form says it
 --   lines              the lines of a text of such forms
-use Rattle.std.proofs.Common.{◌≡◌, ℕ, zero, suc, ◌≤◌, ◌&&◌, Bool, true, false, not, cond, leb, List, [], ◌∷◌, ◌++◌, map, find, Option, Some, None, refl, sym, ap, subst, ◌∙◌, arith}
+use Rattle.std.proofs.Common.{◌≡◌, ℕ, zero, suc, ◌≤◌, ◌&&◌, Bool, true, false, not, cond, leb, List, [], ◌∷◌, ◌++◌, map, Some, None, refl, ap, subst, ◌∙◌, arith}
 use Rattle.std.specs.List.{AllByRecursion, filter, flat_map, slice_get}
-use Rattle.std.specs.Option.{option_map}
 use Rattle.std.specs.Str.Lines.{strip_carriage_return}
-use Rattle.std.proofs.lemmas.Bool.{and_parts, leb-true}
+use Rattle.std.proofs.lemmas.Bool.{and_parts, leb-true, not-false}
 use Rattle.std.proofs.lemmas.Option.{same_Some}
 use Rattle.std.proofs.lemmas.List.{length-map}
 use Rattle.std.proofs.lemmas.List.Folds.{flat_map-map}
-use Rattle.ipa_spec.specs.Limits.{fault_of, faults_found, first_limit, first_there, limits_passed, size_outside, IsFaultless}
-use Rattle.ipa_spec.specs.declared.faults.SpecFault.{SpecFault}
-use Rattle.ipa_spec.specs.declared.faults.SpecFault.TheVariants as fault
+use Rattle.ipa_spec.specs.Limits.{size_outside, IsFaultless}
+use Rattle.ipa_spec.specs.FaultlessFits.{limits_of-faultless, not_found}
 use Rattle.ipa_spec.specs.declared.predicates.Predicate.{Predicate}
 use Rattle.ipa_spec.specs.declared.operations.Effect.{Effect}
 use Rattle.ipa_spec.specs.declared.bounds.Bound.{Bound}
@@ -91,37 +89,12 @@ either_printable false f g h k = k
 effect_printable : (ps : List Predicate) (own : Name) (vars : List Name) (e : Effect) → IsPrintable (effect_form ps own vars e)
 effect_printable ps own vars e = either_printable e.add (Add (predicate_name ps own e.predicate) (args_form ps own vars e)) (Del (predicate_name ps own e.predicate) (args_form ps own vars e)) (record { members = tt; numbers = tt }) (record { members = tt; numbers = tt })
 
-none_there : (options : List (Option SpecFault)) → first_there options ≡ None → (n : ℕ) (o : Option SpecFault) → slice_get options n ≡ Some o → o ≡ None
-none_there [] h n o e = cc
-none_there (None ∷ rest) h zero o e = sym (same_Some _ _ e)
-none_there (None ∷ rest) h (suc n) o e = none_there rest h n o e
-none_there (Some found ∷ rest) h n o e = cc
-
-sizes_inside : (s : Specification) → IsFaultless s → size_outside (map (λ b. b.most) s.bounds) ≡ None
-unfolding fault_of first_limit
-sizes_inside s h = none_there (limits_passed s) (none_there (faults_found s) h.none 6 _ refl) 11 _ refl
-
-not_not : (b : Bool) → not b ≡ false → b ≡ true
-not_not true h = refl
-not_not false h = cc
-
-record Inside (size : ℕ) (others : List ℕ) : Type 0 where
-  here : (leb 1 size && leb size 65535) ≡ true
-  later : size_outside others ≡ None
-
-inside : (size : ℕ) (others : List ℕ) → size_outside (size ∷ others) ≡ None → Inside size others
-inside size others h = go (leb 1 size && leb size 65535) refl h
-  where
-    go : (b : Bool) → (leb 1 size && leb size 65535) ≡ b → option_map (λ found. fault.Limit 12 found) (cond (not b) (Some size) (find (λ other. not (leb 1 other && leb other 65535)) others)) ≡ None → Inside size others
-    go true e k = record { here = e; later = k }
-    go false e k = cc
-
 most_below : (bs : List Bound) → size_outside (map (λ b. b.most) bs) ≡ None → (n : ℕ) (b : Bound) → slice_get bs n ≡ Some b → b.most ≤ 65535
 most_below [] h n b e = cc
 most_below (c ∷ bs) h zero b e =
-    let parts = and_parts (leb 1 c.most) (leb c.most 65535) (inside c.most (map (λ x. x.most) bs) h).here in
-    subst (λ x. x.most ≤ 65535) (same_Some _ _ e) (leb-true c.most 65535 parts.1)
-most_below (c ∷ bs) h (suc n) b e = most_below bs (inside c.most (map (λ x. x.most) bs) h).later n b e
+    let here = not-false (leb 1 c.most && leb c.most 65535) (not_found (not (leb 1 c.most && leb c.most 65535)) _ c.most _ h).head in
+    subst (λ x. x.most ≤ 65535) (same_Some _ _ e) (leb-true c.most 65535 (and_parts (leb 1 c.most) (leb c.most 65535) here).1)
+most_below (c ∷ bs) h (suc n) b e = most_below bs (not_found (not (leb 1 c.most && leb c.most 65535)) _ c.most _ h).rest n b e
 
 pub printable : (s : Specification) → IsFaultless s → HasLiterals s → ArePrintable (forms_of s)
 printable s h literals =
@@ -134,6 +107,6 @@ printable s h literals =
           (mapped (effect_form s.predicates o.name (names_of o.params)) o.effects (λ k effect is. effect_printable s.predicates o.name (names_of o.params) effect)),
     )))
     (flattened (bound_forms s.predicates) s.bounds (λ n b e. (
-      record { members = tt; numbers = omega (arith, most_below s.bounds (sizes_inside s h) n b e) },
+      record { members = tt; numbers = omega (arith, most_below s.bounds (limits_of-faultless s h 11 _ refl) n b e) },
       mapped (remove_form s.predicates b.name (bound_vars s.predicates b)) b.removes (λ k effect is. record { members = tt; numbers = tt }),
     ))))))

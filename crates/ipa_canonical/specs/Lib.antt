@@ -1,2 +1,6 @@
 pub mod Canonical
 pub mod Sentences
+pub mod Named
+pub mod Shapes
+pub mod Alone
+pub mod Rereading

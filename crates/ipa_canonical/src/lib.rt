@@ -2,8 +2,12 @@
 //! one way: sorts, predicates, clauses, operations with their needs and effects, and bounds with
 //! their further removes. Read again, each line has the form that it was written for.
 //!
+//! The text is read back as the specification that it was printed from, or, exactly where a clause
+//! is broken without facts and elements, is refused for that instance.
+//!
 //! ```
-//! let text = print_spec(alloc, &document.spec)?;
+//! let text = print_spec(alloc, &document.spec)?;   // of a document that was read
+//! read_document(alloc, text.as_bytes())            // has the same specification, or that refusal
 //! ```
 #![tactic(auto)]
 
@@ -11,6 +15,15 @@ mod canonical;
 mod canonical_laws;
 mod naming;
 mod parts;
+mod rereading;
 
 pub use canonical::print_spec;
 pub use canonical_laws::canonical_lines;
+pub use rereading::{
+    declares_itself, document_read_back, fit_to_print, is_read_back, none_refused, reads_as_itself,
+};
+
+#[cfg(test)]
+mod print_tests;
+#[cfg(test)]
+mod rereading_tests;

@@ -7,7 +7,7 @@ use Rattle.std.proofs.Common.{◌≡◌, ℕ, List, sym, ap, subst, ◌∙◌}
 use Rattle.ipa_text.specs.Lines.{lines_of, last_line}
 use Rattle.ipa_spec.specs.declared.specification.Specification.{Specification}
 use Rattle.ipa_logic.specs.declared.facts.Fact.{Fact}
-use Rattle.ipa_reader.specs.Meaning.{specification_of}
+use Rattle.ipa_declared.specs.Meaning.{specification_of}
 use Rattle.ipa_reader.specs.Setups.{size_list, IsSetup, IsStateOf, IsRefusedAtEnd, IsKept}
 use Rattle.ipa_reader.specs.Soundness.{IsSoundStanding}
 use Rattle.ipa_reader.specs.Documents.{ReadsAs, IsRefused}

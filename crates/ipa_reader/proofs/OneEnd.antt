@@ -5,18 +5,13 @@
 --   kept_only       a base that is kept is not refused
 use Rattle.std.proofs.Common.{◌≡◌, ℕ, ◌<◌, ◌≤◌, ◌⊎◌, inl, inr, Bool, false, List, [], ◌∷◌, length, Option, refl, sym, ap, subst, ◌∙◌, zero, suc, arith}
 use Rattle.std.specs.List.{slice_get}
-use Rattle.std.specs.Ordering.{is_eq}
-use Rattle.std.specs.Cmp.{IsTotalOrder, on_total, then_total, nat_cmp_total}
-use Rattle.std.specs.Cmp.Lexicographic.{nat_list_cmp_total}
-use Rattle.std.specs.BTreeSet.{BTreeSet}
 use Rattle.std.proofs.lemmas.Bool.{false≢true, cases_order}
-use Rattle.std.proofs.lemmas.Map.Lookups.{btree_set_from_contains}
 use Rattle.std.proofs.lemmas.Option.{same_Some}
 use Rattle.ipa_spec.specs.Actions.{sorts_of_vars}
 use Rattle.ipa_spec.specs.declared.names.Name.{Name}
 use Rattle.ipa_spec.specs.declared.specification.Specification.{Specification}
-use Rattle.ipa_logic.specs.Facts.{Universe, fact_cmp, has, IsRising}
-use Rattle.ipa_logic.specs.FactLaws.{same_fact}
+use Rattle.ipa_logic.specs.Facts.{Universe, has}
+use Rattle.ipa_logic.specs.FactLaws.{same_rising}
 use Rattle.ipa_logic.specs.Groups.{Within}
 use Rattle.ipa_logic.specs.Truth.{element_of, instance_true, IsOver, IsEarlier, Keeps, IsFirstBroken}
 use Rattle.ipa_logic.specs.declared.facts.Broken.{Broken}
@@ -25,18 +20,8 @@ use Rattle.ipa_reader.specs.Setups.{size_list, instance_count, greatest_instance
 use Rattle.ipa_reader.specs.declared.refusals.DocKind.{DocKind}
 use Rattle.ipa_reader.specs.declared.refusals.DocKind.TheVariants.{BadByte, Existential, BadLine, Spec, Order, UnknownElement, SetupLimit, BaseClause, BaseOver}
 
-fact_cmp_total : IsTotalOrder fact_cmp
-fact_cmp_total = then_total (on_total (λ (f : Fact). f.predicate) nat_cmp_total) (on_total (λ (f : Fact). f.args) nat_list_cmp_total)
-
--- two lists in order with the same facts are the same
-same_states : (s t : List Fact) → IsRising s → IsRising t → ((f : Fact) → has s f ≡ has t f) → s ≡ t
-same_states s t r q h =
-    let one : BTreeSet Fact = record { keys = s } in
-    let other : BTreeSet Fact = record { keys = t } in
-    btree_set_from_contains {R = fact_cmp} fact_cmp_total one other r q h (λ f g e. same_fact f g (ap is_eq e))
-
 pub state_one : (facts s t : List Fact) → IsStateOf facts s → IsStateOf facts t → s ≡ t
-state_one facts s t a b = same_states s t a.rising b.rising (λ f. a.members f ∙ sym (b.members f))
+state_one facts s t a b = same_rising s t a.rising b.rising (λ f. a.members f ∙ sym (b.members f))
 
 -- of two lists of values that differ one is earlier
 earlier_behind : (x y : ℕ) (v w : List ℕ) → x ≡ y → IsEarlier v w → IsEarlier (x ∷ v) (y ∷ w)

@@ -16,7 +16,7 @@ use Rattle.ipa_text.specs.Lines.{line_text, lines_of}
 use Rattle.ipa_logic.specs.declared.facts.Fact.{Fact}
 use Rattle.ipa_logic.specs.declared.facts.Universe.{Universe}
 use Rattle.ipa_forms.specs.declared.forms.Form.{Form}
-use Rattle.ipa_reader.specs.Meaning.{specification_of}
+use Rattle.ipa_declared.specs.Meaning.{specification_of}
 use Rattle.ipa_reader.specs.Standings.{standing_of}
 use Rattle.ipa_reader.specs.Setups.{IsSetup, IsKept, IsStateOf, IsRefusedAtEnd}
 use Rattle.ipa_reader.specs.SetupLaws.{IsSetup-prop, IsKept-prop}

@@ -2,7 +2,7 @@
 --
 --   read_more     the line is taken
 --   fault_here    the line is refused
-use Rattle.std.proofs.Common.{◌≡◌, ℕ, List, [], ◌∷◌, ◌++◌, length, take, Some, None, refl, sym, ap, subst, ◌∙◌, arith}
+use Rattle.std.proofs.Common.{◌≡◌, ℕ, List, [], ◌∷◌, ◌++◌, length, take, Some, None, sym, ap, subst, ◌∙◌, arith}
 use Rattle.std.specs.List.{slice_get}
 use Rattle.std.proofs.lemmas.List.{take-append-le, take_all}
 use Rattle.ipa_text.specs.Lines.{line_text, lines_of}
@@ -17,8 +17,8 @@ use Rattle.ipa_reader.specs.declared.standing.Standing.{Standing}
 use Rattle.ipa_reader.specs.declared.refusals.DocFault.{DocFault}
 use Rattle.ipa_reader.specs.declared.refusals.DocFault.TheVariants as fault
 use Rattle.ipa_reader.specs.declared.refusals.DocKind.{DocKind}
-use Rattle.ipa_reader.proofs.ListFacts.{AllZip-push, AllZip-length}
-use Rattle.ipa_reader.proofs.StandingLemmas.{standing_of-push, accepted_push}
+use Rattle.ipa_declared.specs.ListLaws.{at_seam, AllZip-push, AllZip-length}
+use Rattle.ipa_reader.specs.StandingLaws.{standing_of-push, accepted_push}
 use Rattle.ipa_reader.proofs.SoundNext.{sound_next}
 
 pub read_more : (bytes : List ℕ) (lines : List Line) (line : Line) (s next : Standing) → IsReadUpTo bytes lines s → TakesLine s (line_text bytes line) next → IsReadUpTo bytes (lines ++ line ∷ []) next
@@ -29,10 +29,6 @@ read_more bytes lines line s next h t = record {
   standing_is = t.next_is ∙ ap (λ before. next_standing before t.form) h.standing_is ∙ sym (standing_of-push h.forms t.form);
   within = subst IsSoundStanding (sym t.next_is) (sound_next s t.form h.within t.accepted);
 }
-
-at_seam : {X : Type 0} (xs ys : List X) (x : X) → slice_get (xs ++ x ∷ ys) (length xs) ≡ Some x
-at_seam [] ys x = refl
-at_seam (z ∷ xs) ys x = at_seam xs ys x
 
 refused_here : (bytes : List ℕ) (lines later : List Line) (line : Line) (s : Standing) (number : ℕ) (kind : DocKind) → IsReadUpTo bytes lines s → lines ++ line ∷ later ≡ lines_of bytes → line.number ≡ number → IsRefusedLine s (line_text bytes line) kind → IsRefused bytes number kind
 refused_here bytes lines later line s number kind h all is why =

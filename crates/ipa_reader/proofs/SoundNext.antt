@@ -1,32 +1,33 @@
 -- What stands behind a line that is not refused is sound, where what stands before it is.
 --
 --   sound_next       so it is
---   replica_named    a session that is not refused names one of the replicas
-use Rattle.std.proofs.Common.{◌≡◌, ◌+◌, ◌<◌, ◌≤◌, false, ◌||◌, List, [], ◌∷◌, ◌++◌, length, None, refl, sym, subst, ◌-◌, arith}
+--   names_new        an `elem` line that is not refused names elements that are new in their sort
+use Rattle.std.proofs.Common.{◌≡◌, ◌+◌, ◌<◌, ◌≤◌, false, ◌||◌, List, [], ◌∷◌, ◌++◌, length, None, refl, sym, subst, ◌∙◌, ◌-◌, arith}
 use Rattle.std.proofs.lemmas.Bool.{or_parts}
 use Rattle.std.proofs.lemmas.List.{length-append}
 use Rattle.ipa_spec.specs.Faults.{has_repeat}
 use Rattle.ipa_spec.specs.declared.names.Name.{Name}
 use Rattle.ipa_reader.specs.Arrangements.{elements_of, do_said, show_said, with_request, with_arrangement}
 use Rattle.ipa_reader.specs.Standings.{next_standing}
-use Rattle.ipa_reader.specs.Flaws.{sort_has}
-use Rattle.ipa_reader.specs.Ordering.{is_session}
+use Rattle.ipa_declared.specs.Flaws.{sort_has}
+use Rattle.ipa_reader.specs.Ordering.{is_setup, is_session}
 use Rattle.ipa_reader.specs.Refusals.{elements_have, line_has, request_count, refusal_at}
-use Rattle.ipa_reader.specs.Soundness.{IsWithinElements, AreApart, ArePlaced, IsSoundStanding, NamesReplica}
-use Rattle.ipa_reader.specs.declared.flaws.Flaw.TheVariants.{Duplicate}
+use Rattle.ipa_reader.specs.RefusalLaws.{plain}
+use Rattle.ipa_reader.specs.Soundness.{IsWithinElements, AreApart, ArePlaced, IsSoundStanding, NamesNew}
+use Rattle.ipa_declared.specs.declared.flaws.Flaw.TheVariants.{Duplicate}
 use Rattle.ipa_reader.specs.declared.sessions.SessionWork.{SessionWork}
 use Rattle.ipa_forms.specs.declared.forms.Form.{Form}
 use Rattle.ipa_forms.specs.declared.forms.Form.TheVariants.{Sort, Pred, Clause, Op, Need, Add, Del, Bound, Drops, Elem, Base, Replicas, Session, Do, Show}
 use Rattle.ipa_reader.specs.declared.standing.Standing.{Standing}
-use Rattle.ipa_reader.proofs.ListFacts.{length-with_last}
+use Rattle.ipa_declared.specs.ListLaws.{length-with_last}
 use Rattle.ipa_reader.proofs.Unrefused.{Unrefused, unrefused, setup_kept, replicas_kept}
-use Rattle.ipa_reader.proofs.SoundDeclared.{sound_declared}
+use Rattle.ipa_declared.specs.SoundLaws.{sound_declared}
 use Rattle.ipa_reader.proofs.SoundArranged.{within_elements, apart_elements, placed_push, placed_last, placed_more, placed_none, request_count-push, request_count-last, names_replica}
 
 -- a line that arranges nothing
-unchanged : (s : Standing) (line : Form) → IsSoundStanding s → Unrefused s line → with_arrangement s.declared s.arranged line ≡ s.arranged → is_session line ≡ false → IsSoundStanding (next_standing s line)
-unchanged s line h u same other = record {
-  declared = sound_declared s line h.declared u;
+unchanged : (s : Standing) (line : Form) → IsSoundStanding s → Unrefused s line → is_setup line ≡ false → with_arrangement s.declared s.arranged line ≡ s.arranged → is_session line ≡ false → IsSoundStanding (next_standing s line)
+unchanged s line h u spec same other = record {
+  declared = sound_declared s.declared line h.declared (record { flawless = λ flaw. sym ((plain s line spec).flaws flaw) ∙ u.flawless flaw; limits = u.limits });
   elements = subst (λ a. IsWithinElements a.elements) (sym same) h.elements;
   apart = subst (λ a. AreApart a.elements) (sym same) h.apart;
   some_replica = subst (λ a. 0 < a.replicas) (sym same) h.some_replica;
@@ -42,15 +43,15 @@ unfolding line_has
 element_flaw s sort names h = (or_parts (sort_has Duplicate s.declared sort) (elements_have Duplicate (elements_of s.declared s.arranged.elements sort) names) h).1
 
 next : (s : Standing) (line : Form) → IsSoundStanding s → Unrefused s line → IsSoundStanding (next_standing s line)
-next s (Sort name) h u = unchanged s (Sort name) h u refl refl
-next s (Pred name sorts rule) h u = unchanged s (Pred name sorts rule) h u refl refl
-next s (Clause name vars literals) h u = unchanged s (Clause name vars literals) h u refl refl
-next s (Op name params) h u = unchanged s (Op name params) h u refl refl
-next s (Need literal) h u = unchanged s (Need literal) h u refl refl
-next s (Add predicate args) h u = unchanged s (Add predicate args) h u refl refl
-next s (Del predicate args) h u = unchanged s (Del predicate args) h u refl refl
-next s (Bound name predicate vars counted most) h u = unchanged s (Bound name predicate vars counted most) h u refl refl
-next s (Drops predicate args) h u = unchanged s (Drops predicate args) h u refl refl
+next s (Sort name) h u = unchanged s (Sort name) h u refl refl refl
+next s (Pred name sorts rule) h u = unchanged s (Pred name sorts rule) h u refl refl refl
+next s (Clause name vars literals) h u = unchanged s (Clause name vars literals) h u refl refl refl
+next s (Op name params) h u = unchanged s (Op name params) h u refl refl refl
+next s (Need literal) h u = unchanged s (Need literal) h u refl refl refl
+next s (Add predicate args) h u = unchanged s (Add predicate args) h u refl refl refl
+next s (Del predicate args) h u = unchanged s (Del predicate args) h u refl refl refl
+next s (Bound name predicate vars counted most) h u = unchanged s (Bound name predicate vars counted most) h u refl refl refl
+next s (Drops predicate args) h u = unchanged s (Drops predicate args) h u refl refl refl
 next s (Elem sort names) h u = record {
   declared = h.declared;
   elements = within_elements s.declared s.arranged.elements sort names h.elements (setup_kept 14 256 (length (elements_of s.declared s.arranged.elements sort) + length names) u.setup_limit);
@@ -128,21 +129,20 @@ next s (Show predicate places) h u =
 pub sound_next : (s : Standing) (line : Form) → IsSoundStanding s → refusal_at s line ≡ None → IsSoundStanding (next_standing s line)
 sound_next s line h e = next s line h (unrefused s line e)
 
-pub replica_named : (s : Standing) (line : Form) → IsSoundStanding s → refusal_at s line ≡ None → NamesReplica line
-replica_named s (Session number) h e =
-    let named = names_replica number s.arranged.replicas (unrefused s (Session number) e).missing in
-    (named.0, omega (arith, named.1, h.replicas))
-replica_named s (Sort name) h e = tt
-replica_named s (Pred name sorts rule) h e = tt
-replica_named s (Clause name vars literals) h e = tt
-replica_named s (Op name params) h e = tt
-replica_named s (Need literal) h e = tt
-replica_named s (Add predicate args) h e = tt
-replica_named s (Del predicate args) h e = tt
-replica_named s (Bound name predicate vars counted most) h e = tt
-replica_named s (Drops predicate args) h e = tt
-replica_named s (Elem sort names) h e = tt
-replica_named s (Base predicate elements) h e = tt
-replica_named s (Replicas number) h e = tt
-replica_named s (Do operation elements) h e = tt
-replica_named s (Show predicate places) h e = tt
+-- an `elem` line that is not refused names elements that are new in their sort
+pub names_new : (s : Standing) (line : Form) → refusal_at s line ≡ None → NamesNew s.declared s.arranged line
+names_new s (Elem sort names) e = element_flaw s sort names ((unrefused s (Elem sort names) e).flawless Duplicate)
+names_new s (Sort name) e = tt
+names_new s (Pred name sorts rule) e = tt
+names_new s (Clause name vars literals) e = tt
+names_new s (Op name params) e = tt
+names_new s (Need literal) e = tt
+names_new s (Add predicate args) e = tt
+names_new s (Del predicate args) e = tt
+names_new s (Bound name predicate vars counted most) e = tt
+names_new s (Drops predicate args) e = tt
+names_new s (Base predicate elements) e = tt
+names_new s (Replicas number) e = tt
+names_new s (Session number) e = tt
+names_new s (Do operation elements) e = tt
+names_new s (Show predicate places) e = tt

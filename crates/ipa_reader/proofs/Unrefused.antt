@@ -2,20 +2,21 @@
 --
 --   Unrefused s line     it has no flaw, passes no limit, and names what is there
 --   unrefused            so it is where there is no refusal
---   count_kept           a limit that isn't passed
-use Rattle.std.proofs.Common.{◌≡◌, ℕ, ◌≤◌, Bool, true, false, cond, not, ◌&&◌, leb, List, [], ◌∷◌, Option, Some, None, refl, sym, zero, suc}
+--   setup_kept, replicas_kept   a limit that isn't passed
+use Rattle.std.proofs.Common.{◌≡◌, ℕ, ◌≤◌, Bool, true, false, cond, ◌&&◌, leb, List, [], ◌∷◌, Option, Some, None, refl, sym, zero, suc}
 use Rattle.std.specs.List.{slice_get}
 use Rattle.std.specs.Option.{option_map}
 use Rattle.std.proofs.lemmas.Bool.{ltb-false, leb-true, and_parts}
 use Rattle.std.proofs.lemmas.Option.{same_Some}
-use Rattle.ipa_spec.specs.Limits.{first_there, fault_if, size_outside}
+use Rattle.ipa_spec.specs.Limits.{first_there}
+use Rattle.ipa_spec.specs.FaultlessFits.{none_there, fault_if-None}
 use Rattle.ipa_spec.specs.declared.faults.SpecFault.{SpecFault}
 use Rattle.ipa_spec.specs.declared.faults.SpecFault.TheVariants as fault
-use Rattle.ipa_reader.specs.Counts.{count_above, limits_passed}
+use Rattle.ipa_declared.specs.Counts.{limits_passed}
 use Rattle.ipa_reader.specs.Ordering.{is_out_of_order}
 use Rattle.ipa_reader.specs.Refusals.{line_has, faults_at, is_missing, setup_limit_at, setup_above, replicas_outside, first_kind, kind_if, refusals_at, refusal_at}
-use Rattle.ipa_reader.specs.declared.flaws.Flaw.{Flaw}
-use Rattle.ipa_reader.specs.declared.flaws.Flaw.TheVariants.{Arity, SortMismatch, UnknownName, Duplicate, WildAdd, FreeVariable}
+use Rattle.ipa_declared.specs.declared.flaws.Flaw.{Flaw}
+use Rattle.ipa_declared.specs.declared.flaws.Flaw.TheVariants.{Arity, SortMismatch, UnknownName, Duplicate, WildAdd, FreeVariable}
 use Rattle.ipa_forms.specs.declared.forms.Form.{Form}
 use Rattle.ipa_reader.specs.declared.refusals.DocKind.{DocKind}
 use Rattle.ipa_reader.specs.declared.refusals.DocKind.TheVariants as kind
@@ -28,21 +29,11 @@ pub record Unrefused (s : Standing) (line : Form) : Type 0 where
   pub missing : is_missing s line ≡ false
   pub setup_limit : setup_limit_at s line ≡ None
 
-none_there : (options : List (Option SpecFault)) → first_there options ≡ None → (n : ℕ) (o : Option SpecFault) → slice_get options n ≡ Some o → o ≡ None
-none_there [] h n o e = cc
-none_there (None ∷ rest) h zero o e = sym (same_Some _ _ e)
-none_there (None ∷ rest) h (suc n) o e = none_there rest h n o e
-none_there (Some found ∷ rest) h n o e = cc
-
 no_kind : (options : List (Option DocKind)) → first_kind options ≡ None → (n : ℕ) (o : Option DocKind) → slice_get options n ≡ Some o → o ≡ None
 no_kind [] h n o e = cc
 no_kind (None ∷ rest) h zero o e = sym (same_Some _ _ e)
 no_kind (None ∷ rest) h (suc n) o e = no_kind rest h n o e
 no_kind (Some found ∷ rest) h n o e = cc
-
-fault_if-None : (found : Bool) (named : SpecFault) → fault_if found named ≡ None → found ≡ false
-fault_if-None false named h = refl
-fault_if-None true named h = cc
 
 kind_if-None : (found : Bool) (named : DocKind) → kind_if found named ≡ None → found ≡ false
 kind_if-None false named h = refl
@@ -70,23 +61,6 @@ unrefused s line h =
       missing = kind_if-None (is_missing s line) kind.UnknownElement (no_kind (refusals_at s line) h 2 _ refl);
       setup_limit = no_kind (refusals_at s line) h 3 _ refl;
     }
-
--- what is not found is not there
-unfound : (test : Bool) (named : ℕ → SpecFault) (count : ℕ) → option_map named (cond test (Some count) None) ≡ None → test ≡ false
-unfound false named count h = refl
-unfound true named count h = cc
-
-pub count_kept : (which most count : ℕ) → count_above which most count ≡ None → count ≤ most
-count_kept which most count h = ltb-false most count (unfound _ (λ found. fault.Limit which found) count h)
-
-not_not : (b : Bool) → not b ≡ false → b ≡ true
-not_not true h = refl
-not_not false h = cc
-
-pub size_kept : (size : ℕ) → size_outside (size ∷ []) ≡ None → (1 ≤ size) × (size ≤ 65535)
-size_kept size h =
-    let inside = and_parts (leb 1 size) (leb size 65535) (not_not (leb 1 size && leb size 65535) (unfound _ (λ found. fault.Limit 12 found) size h)) in
-    (leb-true 1 size inside.0, leb-true size 65535 inside.1)
 
 setup_unfound : (test : Bool) (named : DocKind) → cond test (Some named) None ≡ None → test ≡ false
 setup_unfound false named h = refl

@@ -15,11 +15,12 @@ use Rattle.ipa_spec.specs.declared.names.Name.{Name}
 use Rattle.ipa_logic.specs.declared.facts.Fact.{Fact}
 use Rattle.ipa_logic.specs.declared.facts.Request.{Request}
 use Rattle.ipa_logic.specs.declared.facts.Request.TheVariants as request
-use Rattle.ipa_reader.specs.Naming.{number_in, number_or_count, with_last}
-use Rattle.ipa_reader.specs.Scopes.{places_of, operation_named}
+use Rattle.ipa_declared.specs.Meaning.{three, predicate_number}
+use Rattle.ipa_declared.specs.Naming.{number_in, number_or_count, with_last}
+use Rattle.ipa_declared.specs.Scopes.{places_of, operation_named}
 use Rattle.ipa_forms.specs.declared.forms.Form.{Form}
 use Rattle.ipa_forms.specs.declared.forms.Form.TheVariants.{Elem, Base, Replicas, Session, Do, Show}
-use Rattle.ipa_reader.specs.declared.declared.Declared.{Declared}
+use Rattle.ipa_declared.specs.declared.declared.Declared.{Declared}
 use Rattle.ipa_reader.specs.declared.sessions.SessionWork.{SessionWork}
 use Rattle.ipa_reader.specs.declared.standing.Arranged.{Arranged}
 
@@ -48,14 +49,8 @@ abbrev pub element_numbers : Declared → List (List Name) → List Name → Lis
 element_numbers d elements sorts names = map (λ q. element_number d elements q.1 q.0) (zip names sorts)
 
 -- an argument list of a fixed width: 0 stands in the unused places
-abbrev pub three : List ℕ → List ℕ
-three ns = slice_index_or ns 0 0 ∷ slice_index_or ns 1 0 ∷ slice_index_or ns 2 0 ∷ []
-
 abbrev pub four : List ℕ → List ℕ
 four ns = slice_index_or ns 0 0 ∷ slice_index_or ns 1 0 ∷ slice_index_or ns 2 0 ∷ slice_index_or ns 3 0 ∷ []
-
-abbrev pub predicate_number : Declared → Name → ℕ
-predicate_number d name = number_or_count (map (λ p. p.name) d.predicates) name
 
 abbrev pub operation_number : Declared → Name → ℕ
 operation_number d name = number_or_count (map (λ o. o.name) d.operations) name

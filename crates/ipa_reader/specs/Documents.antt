@@ -17,7 +17,7 @@ use Rattle.ipa_logic.specs.declared.facts.Fact.{Fact}
 use Rattle.ipa_forms.specs.Forms.{HasForm, is_existential}
 use Rattle.ipa_reader.specs.Standings.{standing_of}
 use Rattle.ipa_reader.specs.Refusals.{refusal_at}
-use Rattle.ipa_reader.specs.Meaning.{specification_of}
+use Rattle.ipa_declared.specs.Meaning.{specification_of}
 use Rattle.ipa_reader.specs.Setups.{size_list, IsStateOf, IsRefusedAtEnd, IsKept}
 use Rattle.ipa_forms.specs.declared.forms.Form.{Form}
 use Rattle.ipa_reader.specs.declared.standing.Standing.{Standing}

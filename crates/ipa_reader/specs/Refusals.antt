@@ -12,17 +12,17 @@ use Rattle.ipa_spec.specs.Limits.{fault_if, first_there}
 use Rattle.ipa_spec.specs.declared.names.Name.{Name}
 use Rattle.ipa_spec.specs.declared.faults.SpecFault.{SpecFault}
 use Rattle.ipa_spec.specs.declared.faults.SpecFault.TheVariants as fault
-use Rattle.ipa_reader.specs.Naming.{is_among}
-use Rattle.ipa_reader.specs.Scopes.{places_of, operation_named}
-use Rattle.ipa_reader.specs.Flaws.{use_has, sort_has, arity_named, specification_line_has}
-use Rattle.ipa_reader.specs.Counts.{limit_passed}
+use Rattle.ipa_declared.specs.Naming.{is_among}
+use Rattle.ipa_declared.specs.Scopes.{places_of, operation_named}
+use Rattle.ipa_declared.specs.Flaws.{use_has, sort_has, arity_named, specification_line_has}
+use Rattle.ipa_declared.specs.Counts.{limit_passed}
 use Rattle.ipa_reader.specs.Arrangements.{elements_of, parameter_sorts}
 use Rattle.ipa_reader.specs.Ordering.{is_out_of_order}
-use Rattle.ipa_reader.specs.declared.flaws.Flaw.{Flaw}
-use Rattle.ipa_reader.specs.declared.flaws.Flaw.TheVariants.{Arity, SortMismatch, UnknownName, Duplicate, WildAdd, FreeVariable}
+use Rattle.ipa_declared.specs.declared.flaws.Flaw.{Flaw}
+use Rattle.ipa_declared.specs.declared.flaws.Flaw.TheVariants.{Arity, SortMismatch, UnknownName, Duplicate, WildAdd, FreeVariable}
 use Rattle.ipa_forms.specs.declared.forms.Form.{Form}
 use Rattle.ipa_forms.specs.declared.forms.Form.TheVariants.{Elem, Base, Replicas, Session, Do, Show}
-use Rattle.ipa_reader.specs.declared.declared.Declared.{Declared}
+use Rattle.ipa_declared.specs.declared.declared.Declared.{Declared}
 use Rattle.ipa_reader.specs.declared.sessions.SessionWork.{SessionWork}
 use Rattle.ipa_reader.specs.declared.refusals.DocKind.{DocKind}
 use Rattle.ipa_reader.specs.declared.refusals.DocKind.TheVariants.{Spec, Order, UnknownElement, SetupLimit}

@@ -1,75 +1,23 @@
--- What accepted lines keep.
+-- What accepted setup lines keep.
 --
---   EachOf P xs               P holds of each item
---   IsSoundPredicate d p, ..  what is declared has no flaw, and keeps the limits on its counts
---   AreSoundParts ..          things of one kind: their number, their names, and each of them
---   IsSound d                 everything that is declared is so
 --   IsWithinElements es       no sort has more elements than allowed
 --   AreApart es               no element stands twice in its sort
 --   ArePlaced r sessions b    each session is at one of the replicas
 --   IsSoundStanding s         what is declared is sound, and what is arranged keeps the limits on the setup
 --   NamesReplica line         a session names one of the replicas that may be
-use Rattle.std.specs.Prelude.{◌≡◌, ℕ, ◌<◌, ◌≤◌, Bool, false, List, [], length, slice_get, Some}
-use Rattle.std.specs.List.{list_any}
+--   NamesNew d a line         an `elem` line names elements that are new in their sort
+use Rattle.std.specs.Prelude.{◌≡◌, ℕ, ◌<◌, ◌≤◌, ◌++◌, Bool, false, List, [], length}
 use Rattle.ipa_spec.specs.Faults.{has_repeat}
 use Rattle.ipa_spec.specs.declared.names.Name.{Name}
-use Rattle.ipa_reader.specs.Scopes.{bound_variables}
-use Rattle.ipa_reader.specs.Flaws.{sort_has, variables_have, literal_has, effect_has, bound_has}
-use Rattle.ipa_reader.specs.Arrangements.{elements_at}
+use Rattle.ipa_declared.specs.Soundness.{EachOf, IsSound}
+use Rattle.ipa_reader.specs.Arrangements.{elements_at, elements_of}
 use Rattle.ipa_reader.specs.Refusals.{request_count}
-use Rattle.ipa_reader.specs.declared.flaws.Flaw.{Flaw}
 use Rattle.ipa_forms.specs.declared.forms.Form.{Form}
-use Rattle.ipa_forms.specs.declared.forms.Form.TheVariants.{Session}
-use Rattle.ipa_reader.specs.declared.declared.PredicateLine.{PredicateLine}
-use Rattle.ipa_reader.specs.declared.declared.ClauseLine.{ClauseLine}
-use Rattle.ipa_reader.specs.declared.declared.OperationLines.{OperationLines}
-use Rattle.ipa_reader.specs.declared.declared.BoundLines.{BoundLines}
-use Rattle.ipa_reader.specs.declared.declared.Declared.{Declared}
+use Rattle.ipa_forms.specs.declared.forms.Form.TheVariants.{Elem, Session}
 use Rattle.ipa_reader.specs.declared.sessions.SessionWork.{SessionWork}
+use Rattle.ipa_declared.specs.declared.declared.Declared.{Declared}
+use Rattle.ipa_reader.specs.declared.standing.Arranged.{Arranged}
 use Rattle.ipa_reader.specs.declared.standing.Standing.{Standing}
-
-pub record EachOf {X : Type 0} (P : X → Type 0) (xs : List X) : Type 0 where
-  pub at : (k : ℕ) (x : X) → slice_get xs k ≡ Some x → P x
-
-pub record IsSoundPredicate (d : Declared) (p : PredicateLine) : Type 0 where
-  pub places : length p.sorts ≤ 3
-  pub flawless : (flaw : Flaw) → list_any (sort_has flaw d) p.sorts ≡ false
-
-pub record IsSoundClause (d : Declared) (c : ClauseLine) : Type 0 where
-  pub literal_count : length c.literals ≤ 6
-  pub variable_count : length c.vars ≤ 4
-  pub variables : (flaw : Flaw) → variables_have flaw d c.vars ≡ false
-  pub literals : (flaw : Flaw) → list_any (literal_has flaw d c.vars) c.literals ≡ false
-
-pub record IsSoundOperation (d : Declared) (o : OperationLines) : Type 0 where
-  pub parameter_count : length o.params ≤ 4
-  pub need_count : length o.needs ≤ 6
-  pub effect_count : length o.effects ≤ 12
-  pub parameters : (flaw : Flaw) → variables_have flaw d o.params ≡ false
-  pub needs : (flaw : Flaw) → list_any (literal_has flaw d o.params) o.needs ≡ false
-  pub effects : (flaw : Flaw) → list_any (effect_has flaw d o.params) o.effects ≡ false
-
-pub record IsSoundBound (d : Declared) (b : BoundLines) : Type 0 where
-  pub variable_count : length b.vars ≤ 3
-  pub some_size : 0 < b.most
-  pub size : b.most ≤ 65535
-  pub remove_count : length b.removes ≤ 4
-  pub flawless : (flaw : Flaw) → bound_has flaw d b.predicate b.vars b.counted ≡ false
-  pub removes : (flaw : Flaw) → list_any (effect_has flaw d (bound_variables d b)) b.removes ≡ false
-  pub removing : list_any (λ e. e.add) b.removes ≡ false
-
--- things of one kind: not too many, none with another's name, and each so
-pub record AreSoundParts {X : Type 0} (name_of : X → Name) (most : ℕ) (P : X → Type 0) (xs : List X) : Type 0 where
-  pub count : length xs ≤ most
-  pub apart : has_repeat name_of xs ≡ false
-  pub each : EachOf P xs
-
-pub record IsSound (d : Declared) : Type 0 where
-  pub sorts : AreSoundParts (λ name. name) 8 (λ name. Unit {0}) d.sorts
-  pub predicates : AreSoundParts (λ p. p.name) 32 (IsSoundPredicate d) d.predicates
-  pub clauses : AreSoundParts (λ c. c.name) 32 (IsSoundClause d) d.clauses
-  pub operations : AreSoundParts (λ o. o.name) 32 (IsSoundOperation d) d.operations
-  pub bounds : AreSoundParts (λ b. b.name) 8 (IsSoundBound d) d.bounds
 
 pub record IsWithinElements (elements : List (List Name)) : Type 0 where
   pub each : (n : ℕ) → length (elements_at elements n) ≤ 256
@@ -97,3 +45,8 @@ pub record IsSoundStanding (s : Standing) : Type 0 where
 abbrev pub NamesReplica : Form → Type 0
 NamesReplica (Session number) = (0 < number) × (number ≤ 8)
 NamesReplica _ = Unit {0}
+
+-- the elements of an `elem` line, with those declared before it, stand once each
+abbrev pub NamesNew : Declared → Arranged → Form → Type 0
+NamesNew d a (Elem sort names) = has_repeat (λ name. name) (elements_of d a.elements sort ++ names) ≡ false
+NamesNew d a _ = Unit {0}

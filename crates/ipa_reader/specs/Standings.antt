@@ -3,11 +3,11 @@
 --   next_standing s line    what stands behind the line
 --   standing_of lines       what stands behind these lines: what they declare and say, and where the next one stands
 use Rattle.std.specs.Prelude.{List, fold}
-use Rattle.ipa_reader.specs.Declarations.{nothing_declared, with_declaration}
+use Rattle.ipa_declared.specs.Declarations.{nothing_declared, with_declaration}
 use Rattle.ipa_reader.specs.Arrangements.{nothing_arranged, with_arrangement}
 use Rattle.ipa_reader.specs.Ordering.{place_of, next_place}
 use Rattle.ipa_forms.specs.declared.forms.Form.{Form}
-use Rattle.ipa_reader.specs.declared.declared.Declared.{Declared}
+use Rattle.ipa_declared.specs.declared.declared.Declared.{Declared}
 use Rattle.ipa_reader.specs.declared.standing.Arranged.{Arranged}
 use Rattle.ipa_reader.specs.declared.standing.Standing.{Standing}
 

@@ -1,18 +1,18 @@
 //! What is said with one more setup line, by numbers.
-ghost use Rattle.std.specs.Prelude.{◌≡◌, ◌-◌, ◌<◌, ◌≤◌, ◌++◌, [], ◌∷◌, IfOk, IfSome, length, map, slice_index_or};
+ghost use Rattle.std.specs.Prelude.{◌≡◌, ◌-◌, ◌<◌, ◌≤◌, ◌++◌, [], ◌∷◌, false, IfOk, IfSome, length, map, slice_index_or};
 ghost use Rattle.std.specs.List.{zip};
-ghost use Rattle.ipa_reader.specs.Naming.{number_in, with_last};
-ghost use Rattle.ipa_reader.specs.Arrangements.{element_number, element_numbers, three, four, predicate_number, operation_number, fact_said, do_said, wanted_number, three_wanted, show_said, with_request, nothing_arranged, with_arrangement};
-ghost use Rattle.ipa_reader.specs.Soundness.{IsWithinElements, NamesReplica};
+ghost use Rattle.ipa_spec.specs.Faults.{has_repeat};
+ghost use Rattle.ipa_declared.specs.Naming.{number_in, with_last};
+ghost use Rattle.ipa_declared.specs.Meaning.{three, predicate_number};
+ghost use Rattle.ipa_reader.specs.Arrangements.{elements_of, with_elements, element_number, element_numbers, four, operation_number, fact_said, do_said, wanted_number, three_wanted, show_said, with_request, nothing_arranged, with_arrangement};
+ghost use Rattle.ipa_reader.specs.Soundness.{IsWithinElements, NamesReplica, NamesNew};
 
-use crate::declared::Declared;
-use crate::declaring::ending_with;
 use crate::element_lists::with_elements;
-use crate::elements::{elements_of, parameter_sorts};
-use crate::naming::{number_or_count, same_name};
-use crate::scopes::places_of;
+use crate::elements::{element_number, parameter_sorts};
+use crate::names::Names;
 use crate::sessions::SessionWork;
 use crate::standing::Arranged;
+use ipa_declared::{Declared, ending_with, places_of, predicate_number, same_name};
 use ipa_forms::Form;
 use ipa_logic::{Fact, Request};
 use ipa_spec::{List, Name};
@@ -30,19 +30,11 @@ pub(crate) fn nothing_arranged(alloc: Global) -> Arranged
     }
 }
 
-/// The number of an element in the sort of its place.
-fn element_number(declared: &Declared, elements: &List<List<Name>>, sort: &Name, name: &Name) -> u16
-    requires { IsWithinElements elements.now }
-    ensures { result ≡ element_number declared.now elements.now sort.now name.now }
-{
-    number_or_count(elements_of(declared, elements, sort), name) as u16
-}
-
 /// The numbers of elements in the places of these sorts.
 fn element_numbers(
     alloc: Global,
     declared: &Declared,
-    elements: &List<List<Name>>,
+    elements: &List<Names>,
     sorts: &[Name],
     names: &[Name],
 ) -> Result<Vec<u16>, AllocError>
@@ -52,7 +44,7 @@ fn element_numbers(
     names
         .iter()
         .zip(sorts.iter())
-        .map(|(name, sort)| element_number(declared, elements, sort, name))
+        .map(|(name, sort)| element_number(declared, elements, sort, name) as u16)
         .collect(alloc)
 }
 
@@ -89,30 +81,6 @@ fn four(numbers: &[u16]) -> [u16; 4]
     ]
 }
 
-/// The place of a predicate among the declared ones.
-fn predicate_place(declared: &Declared, name: &Name) -> Option<usize>
-    ensures value { result ≡ number_in (map (λ p. p.name) declared.now.predicates) name.now }
-    ensures within { IfSome result (λ place. place < length declared.now.predicates) }
-{
-    declared
-        .predicates
-        .as_slice()
-        .iter()
-        .map(|predicate| predicate.name)
-        .position(|other| same_name(&other, name))
-}
-
-/// The number of a predicate.
-pub(crate) fn predicate_number(declared: &Declared, name: &Name) -> u8
-    requires { length declared.now.predicates ≤ 32 }
-    ensures { result ≡ predicate_number declared.now name.now }
-{
-    match predicate_place(declared, name) {
-        Some(place) => place as u8,
-        None => declared.predicates.len() as u8,
-    }
-}
-
 /// The place of an operation among the declared ones.
 fn operation_place(declared: &Declared, name: &Name) -> Option<usize>
     ensures value { result ≡ number_in (map (λ o. o.name) declared.now.operations) name.now }
@@ -141,7 +109,7 @@ fn operation_number(declared: &Declared, name: &Name) -> u8
 fn fact_said(
     alloc: Global,
     declared: &Declared,
-    elements: &List<List<Name>>,
+    elements: &List<Names>,
     predicate: &Name,
     names: &[Name],
 ) -> Result<Fact, AllocError>
@@ -166,7 +134,7 @@ fn fact_said(
 fn do_said(
     alloc: Global,
     declared: &Declared,
-    elements: &List<List<Name>>,
+    elements: &List<Names>,
     operation: &Name,
     names: &[Name],
 ) -> Result<Request, AllocError>
@@ -185,7 +153,7 @@ fn do_said(
 /// The number of the element wanted in a place, and none for `*`.
 fn wanted_number(
     declared: &Declared,
-    elements: &List<List<Name>>,
+    elements: &List<Names>,
     wanted: &Option<Name>,
     sort: &Name,
 ) -> Option<u16>
@@ -193,7 +161,7 @@ fn wanted_number(
     ensures { result ≡ wanted_number declared.now elements.now (wanted.now, sort.now) }
 {
     match wanted {
-        Some(name) => Some(element_number(declared, elements, sort, name)),
+        Some(name) => Some(element_number(declared, elements, sort, name) as u16),
         None => None,
     }
 }
@@ -202,7 +170,7 @@ fn wanted_number(
 fn wanted_numbers(
     alloc: Global,
     declared: &Declared,
-    elements: &List<List<Name>>,
+    elements: &List<Names>,
     sorts: &[Name],
     places: &[Option<Name>],
 ) -> Result<Vec<Option<u16>>, AllocError>
@@ -230,7 +198,7 @@ fn wanted_at(numbers: &[Option<u16>], place: usize) -> Option<u16>
 fn show_said(
     alloc: Global,
     declared: &Declared,
-    elements: &List<List<Name>>,
+    elements: &List<Names>,
     predicate: &Name,
     places: &[Option<Name>],
 ) -> Result<Request, AllocError>
@@ -303,6 +271,81 @@ fn with_session(alloc: Global, mut arranged: Arranged, number: u32) -> Result<Ar
     Ok(arranged)
 }
 
+/// What is said with one more `base` line.
+fn with_base(
+    alloc: Global,
+    declared: &Declared,
+    arranged: Arranged,
+    predicate: &Name,
+    names: &[Name],
+) -> Result<Arranged, AllocError>
+    requires predicates { length declared.now.predicates ≤ 32 }
+    requires elements { IsWithinElements arranged.elements }
+    ensures { IfOk result (λ now. now ≡ record arranged { facts = arranged.facts ++ fact_said declared.now arranged.elements predicate.now names.now ∷ [] }) }
+{
+    let fact = fact_said(alloc, declared, &arranged.elements, predicate, names)?;
+    with_fact(arranged, fact)
+}
+
+/// What is said with one more request.
+fn with_asked(arranged: Arranged, asked: Request) -> Result<Arranged, AllocError>
+    ensures { IfOk result (λ now. now ≡ record arranged { sessions = with_last (with_request asked) arranged.sessions }) }
+{
+    Ok(Arranged {
+        sessions: with_request(arranged.sessions, asked)?,
+        ..arranged
+    })
+}
+
+/// What is said with one more `do` line.
+fn with_do(
+    alloc: Global,
+    declared: &Declared,
+    arranged: Arranged,
+    operation: &Name,
+    names: &[Name],
+) -> Result<Arranged, AllocError>
+    requires operations { length declared.now.operations ≤ 32 }
+    requires elements { IsWithinElements arranged.elements }
+    ensures { IfOk result (λ now. now ≡ record arranged { sessions = with_last (with_request (do_said declared.now arranged.elements operation.now names.now)) arranged.sessions }) }
+{
+    let asked = do_said(alloc, declared, &arranged.elements, operation, names)?;
+    with_asked(arranged, asked)
+}
+
+/// What is said with one more `show` line.
+fn with_show(
+    alloc: Global,
+    declared: &Declared,
+    arranged: Arranged,
+    predicate: &Name,
+    places: &[Option<Name>],
+) -> Result<Arranged, AllocError>
+    requires predicates { length declared.now.predicates ≤ 32 }
+    requires elements { IsWithinElements arranged.elements }
+    ensures { IfOk result (λ now. now ≡ record arranged { sessions = with_last (with_request (show_said declared.now arranged.elements predicate.now places.now)) arranged.sessions }) }
+{
+    let asked = show_said(alloc, declared, &arranged.elements, predicate, places)?;
+    with_asked(arranged, asked)
+}
+
+/// What is said with more elements of a sort.
+fn with_more_elements(
+    alloc: Global,
+    declared: &Declared,
+    arranged: Arranged,
+    sort: &Name,
+    names: &[Name],
+) -> Result<Arranged, AllocError>
+    requires { has_repeat (λ name. name) (elements_of declared.now arranged.elements sort.now ++ names.now) ≡ false }
+    ensures { IfOk result (λ now. now ≡ record arranged { elements = with_elements declared.now arranged.elements sort.now names.now }) }
+{
+    Ok(Arranged {
+        elements: with_elements(alloc, declared, arranged.elements, sort, names)?,
+        ..arranged
+    })
+}
+
 /// What is said with this line behind the others.
 pub(crate) fn with_arrangement(
     alloc: Global,
@@ -314,32 +357,17 @@ pub(crate) fn with_arrangement(
     requires operations { length declared.now.operations ≤ 32 }
     requires elements { IsWithinElements arranged.elements }
     requires replica { NamesReplica line.now }
+    requires new { NamesNew declared.now arranged line.now }
     ensures { IfOk result (λ now. now ≡ with_arrangement declared.now arranged line.now) }
 {
     match line {
-        Form::Elem { sort, elements } => Ok(Arranged {
-            elements: with_elements(
-                alloc,
-                declared,
-                arranged.elements,
-                sort,
-                elements.as_slice(),
-            )?,
-            ..arranged
-        }),
+        Form::Elem { sort, elements } => {
+            with_more_elements(alloc, declared, arranged, sort, elements.as_slice())
+        }
         Form::Base {
             predicate,
             elements,
-        } => {
-            let fact = fact_said(
-                alloc,
-                declared,
-                &arranged.elements,
-                predicate,
-                elements.as_slice(),
-            )?;
-            with_fact(arranged, fact)
-        }
+        } => with_base(alloc, declared, arranged, predicate, elements.as_slice()),
         Form::Replicas { number } => Ok(Arranged {
             replicas: *number,
             ..arranged
@@ -348,31 +376,9 @@ pub(crate) fn with_arrangement(
         Form::Do {
             operation,
             elements,
-        } => {
-            let asked = do_said(
-                alloc,
-                declared,
-                &arranged.elements,
-                operation,
-                elements.as_slice(),
-            )?;
-            Ok(Arranged {
-                sessions: with_request(arranged.sessions, asked)?,
-                ..arranged
-            })
-        }
+        } => with_do(alloc, declared, arranged, operation, elements.as_slice()),
         Form::Show { predicate, places } => {
-            let asked = show_said(
-                alloc,
-                declared,
-                &arranged.elements,
-                predicate,
-                places.as_slice(),
-            )?;
-            Ok(Arranged {
-                sessions: with_request(arranged.sessions, asked)?,
-                ..arranged
-            })
+            with_show(alloc, declared, arranged, predicate, places.as_slice())
         }
         _ => Ok(arranged),
     }

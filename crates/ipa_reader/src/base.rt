@@ -7,6 +7,7 @@ ghost use Rattle.ipa_reader.specs.Setups.{element_count, size_list, element_name
 ghost use Rattle.ipa_reader.specs.Soundness.{IsWithinElements};
 
 use crate::elements::elements_at;
+use crate::names::Names;
 use crate::refusals::DocKind;
 use ipa_bounds::first_drop;
 use ipa_logic::{Fact, State, Universe, keeps, size_of};
@@ -17,7 +18,7 @@ use std::alloc::{AllocError, Global};
 const GREATEST_INSTANCE_COUNT: u64 = 16777216;
 
 /// The number of elements of a sort.
-fn element_count(elements: &List<List<Name>>, sort: usize) -> u16
+fn element_count(elements: &List<Names>, sort: usize) -> u16
     requires { IsWithinElements elements.now }
     ensures { result ≡ element_count elements.now sort }
 {
@@ -25,7 +26,7 @@ fn element_count(elements: &List<List<Name>>, sort: usize) -> u16
 }
 
 /// The number of elements of each sort.
-pub(crate) fn universe_of(elements: &List<List<Name>>) -> Universe
+pub(crate) fn universe_of(elements: &List<Names>) -> Universe
     requires { IsWithinElements elements.now }
     ensures { result.sizes ≡ size_list elements.now }
 {
@@ -110,7 +111,7 @@ fn instance_count(spec: &Spec, universe: &Universe) -> u64
 
 /// The name of the element that a variable stands for.
 fn element_name(
-    elements: &List<List<Name>>,
+    elements: &List<Names>,
     vars: &[Var],
     values: &[u16; 4],
     place: usize,
@@ -127,7 +128,7 @@ fn element_name(
 }
 
 /// The names of the elements that the variables stand for.
-fn element_names(elements: &List<List<Name>>, vars: &[Var], values: &[u16; 4]) -> [Option<Name>; 4]
+fn element_names(elements: &List<Names>, vars: &[Var], values: &[u16; 4]) -> [Option<Name>; 4]
     ensures { result ≡ element_names elements.now (sorts_of_vars vars.now) values.now }
 {
     [
@@ -141,7 +142,7 @@ fn element_names(elements: &List<List<Name>>, vars: &[Var], values: &[u16; 4]) -
 /// The refusal of a base that breaks a clause, or that has a group over a bound.
 fn base_refusal(
     spec: &Spec,
-    elements: &List<List<Name>>,
+    elements: &List<Names>,
     universe: &Universe,
     base: &State,
 ) -> Option<DocKind>
@@ -168,7 +169,7 @@ fn base_refusal(
 /// The refusal at the end of a document.
 pub(crate) fn refusal_at_end(
     spec: &Spec,
-    elements: &List<List<Name>>,
+    elements: &List<Names>,
     universe: &Universe,
     base: &State,
 ) -> Option<DocKind>

@@ -1,11 +1,13 @@
 //! Laws on documents. These functions do nothing: what they ensure is the law.
 ghost use Rattle.std.specs.Prelude.{◌≡◌, ℕ, List};
+ghost use Rattle.ipa_spec.specs.Limits.{IsFaultless};
 ghost use Rattle.ipa_reader.specs.Documents.{ReadsAs, IsRefused};
 ghost use Rattle.ipa_reader.specs.Setups.{IsSetup, IsKept};
 ghost use Rattle.ipa_reader.specs.declared.document.Document.{Document};
 ghost use Rattle.ipa_reader.specs.declared.document.Setup.{Setup};
 ghost use Rattle.ipa_reader.specs.declared.refusals.DocKind.{DocKind};
 
+use ipa_declared::is_faultless;
 use ipa_forms::one_form;
 use ipa_text::one_cut;
 
@@ -24,3 +26,10 @@ pub fn kept_by_type()
     ensures setup { (s : Setup) → IsSetup s.universe.sizes s.elements s.replicas s.sessions }
     ensures base { (d : Document) → IsKept d.spec d.setup.universe.sizes d.setup.base }
 {}
+
+/// The specification of a document has no fault.
+pub fn document_faultless()
+    ensures { (bytes : List ℕ) (document : Document) → ReadsAs bytes document → IsFaultless document.spec }
+{
+    is_faultless();
+}

@@ -5,20 +5,17 @@ ghost use Rattle.ipa_reader.specs.Standings.{standing_of, next_standing};
 ghost use Rattle.ipa_reader.specs.Refusals.{refusal_at};
 ghost use Rattle.ipa_reader.specs.Documents.{IsRefusedAtLine};
 ghost use Rattle.ipa_reader.specs.Readings.{TakesLine, IsLineFault, IsReadUpTo, IsFault};
-ghost use Rattle.ipa_reader.specs.Soundness.{IsSound, IsSoundStanding};
-ghost use Rattle.ipa_spec.specs.Limits.{fault_of};
-ghost use Rattle.ipa_reader.specs.Meaning.{specification_of};
-ghost use Rattle.ipa_reader.specs.declared.declared.Declared.{Declared};
+ghost use Rattle.ipa_reader.specs.Soundness.{IsSoundStanding};
 ghost use Rattle.ipa_forms.specs.declared.forms.Form.{Form};
 ghost use Rattle.ipa_reader.specs.declared.standing.Standing.{Standing};
 
 use crate::arranging::{nothing_arranged, with_arrangement};
-use crate::declaring::{nothing_declared, with_declaration};
 use crate::line_forms::{TextFault, form_of};
 use crate::order::{Place, next_place};
 use crate::refusals::DocFault;
 use crate::refusing::refusal_at;
 use crate::standing::Standing;
+use ipa_declared::{nothing_declared, with_declaration};
 use ipa_forms::Form;
 use ipa_text::Lines;
 use std::alloc::{AllocError, Global};
@@ -102,13 +99,3 @@ pub(crate) fn take_lines(alloc: Global, bytes: &[u8]) -> Result<Standing, DocFau
     }
     Ok(standing)
 }
-
-/// What stands behind a line that is not refused is sound, where what stands before it is.
-fn stays_sound()
-    ensures { (s : Standing) (line : Form) → IsSoundStanding s → refusal_at s line ≡ None → IsSoundStanding (next_standing s line) }
-{}
-
-/// What is sound has no fault.
-fn is_faultless()
-    ensures { (d : Declared) → IsSound d → fault_of (specification_of d) ≡ None }
-{}

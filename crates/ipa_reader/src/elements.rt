@@ -1,15 +1,14 @@
 //! The elements of sorts, by names.
 ghost use Rattle.std.specs.Prelude.{◌≡◌, ◌≤◌, ◌++◌, IfOk, length, map};
 ghost use Rattle.std.specs.List.{list_any, zip};
-ghost use Rattle.ipa_reader.specs.Arrangements.{elements_at, elements_of, parameter_sorts};
+ghost use Rattle.ipa_declared.specs.Naming.{is_among, number_or_count};
+ghost use Rattle.ipa_reader.specs.Arrangements.{elements_at, elements_of, element_number, parameter_sorts};
 ghost use Rattle.ipa_reader.specs.Soundness.{IsWithinElements};
 ghost use Rattle.ipa_reader.specs.Refusals.{elements_have, parameter_count, is_no_element, is_no_wanted};
 
-use crate::declared::Declared;
-use crate::flaws::Flaw;
-use crate::naming::{is_among, number_in, stands_twice};
-use crate::scopes::operation_named;
+use crate::names::Names;
 use crate::standing::Standing;
+use ipa_declared::{Declared, Flaw, number_in, operation_named, stands_twice};
 use ipa_forms::Typed;
 use ipa_spec::{List, Name};
 use std::alloc::{AllocError, Global};
@@ -17,7 +16,7 @@ use std::alloc::{AllocError, Global};
 /// The elements of a sort: none where it is not declared.
 pub(crate) fn elements_of<'a>(
     declared: &Declared,
-    elements: &'a List<List<Name>>,
+    elements: &'a List<Names>,
     sort: &Name,
 ) -> &'a [Name]
     ensures value { result.now ≡ elements_of declared.now elements.now sort.now }
@@ -30,12 +29,38 @@ pub(crate) fn elements_of<'a>(
 }
 
 /// The elements of the sort of a number: none where no list stands for it.
-pub(crate) fn elements_at(elements: &List<List<Name>>, number: usize) -> &[Name]
+pub(crate) fn elements_at(elements: &List<Names>, number: usize) -> &[Name]
     ensures { result.now ≡ elements_at elements.now number }
 {
     match elements.get(number) {
         Some(names) => names.as_slice(),
         None => &[],
+    }
+}
+
+/// The number of an element in the sort of a number, or the count of the elements where it is none.
+fn element_number_at(elements: &List<Names>, number: usize, name: &Name) -> usize
+    ensures { result ≡ number_or_count (elements_at elements.now number) name.now }
+{
+    match elements.get(number) {
+        Some(names) => names.number_or_count(name),
+        None => 0,
+    }
+}
+
+/// The number of an element in its sort, or the count of the elements where it is none.
+pub(crate) fn element_number(
+    declared: &Declared,
+    elements: &List<Names>,
+    sort: &Name,
+    name: &Name,
+) -> usize
+    ensures value { result ≡ element_number declared.now elements.now sort.now name.now }
+    ensures within { IsWithinElements elements.now → result ≤ 256 }
+{
+    match number_in(declared.sorts.as_slice(), sort) {
+        Some(number) => element_number_at(elements, number, name),
+        None => 0,
     }
 }
 
@@ -97,14 +122,24 @@ pub(crate) fn parameter_sorts(
     }
 }
 
+/// Whether a name is an element of the sort of a number.
+fn has_element(elements: &List<Names>, number: usize, name: &Name) -> bool
+    ensures { result ≡ is_among (elements_at elements.now number) name.now }
+{
+    match elements.get(number) {
+        Some(names) => names.has(name),
+        None => false,
+    }
+}
+
 /// A name that is no element of the sort.
 fn is_no_element(standing: &Standing, name: &Name, sort: &Name) -> bool
     ensures { result ≡ is_no_element standing.now (name.now, sort.now) }
 {
-    !is_among(
-        elements_of(&standing.declared, &standing.arranged.elements, sort),
-        name,
-    )
+    match number_in(standing.declared.sorts.as_slice(), sort) {
+        Some(number) => !has_element(&standing.arranged.elements, number, name),
+        None => true,
+    }
 }
 
 /// Whether one of the names is no element of the sort of its place.

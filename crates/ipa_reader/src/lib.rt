@@ -13,41 +13,28 @@
 
 mod arranging;
 mod base;
-mod bounding;
-mod canonical;
-mod declared;
-mod declaring;
 mod document;
 mod document_laws;
 mod document_lines;
 mod element_lists;
 mod elements;
-mod flaws;
-mod judging;
 mod line_forms;
-mod naming;
-mod numbering;
+mod names;
 mod order;
 mod reader;
 mod refusals;
 mod refusing;
-mod scopes;
 mod sessions;
 mod standing;
-mod variables;
 
-pub use canonical::{
-    declares_itself, document_read_back, fit_to_print, is_read_back, none_refused, reads_as_itself,
-};
 pub use document::{Document, Setup};
-pub use document_laws::{kept_by_type, one_reading};
+pub use document_laws::{document_faultless, kept_by_type, one_reading};
+pub use names::Names;
+pub use order::Place;
 pub use reader::read_document;
 pub use refusals::{DocFault, DocKind};
 pub use sessions::SessionWork;
+pub use standing::{Arranged, Standing};
 
-#[cfg(test)]
-mod canonical_tests;
-#[cfg(test)]
-mod canonical_whole_tests;
 #[cfg(test)]
 mod document_tests;

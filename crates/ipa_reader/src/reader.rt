@@ -1,39 +1,18 @@
 //! From bytes to a document.
 ghost use Rattle.std.specs.Prelude.{◌≡◌, ◌^◌, ◌<◌, length, None, IfErr, IfOk};
-ghost use Rattle.ipa_spec.specs.Limits.{fault_of};
 ghost use Rattle.ipa_text.specs.Lines.{lines_of};
 ghost use Rattle.ipa_reader.specs.Documents.{ReadsAs};
-ghost use Rattle.ipa_reader.specs.Meaning.{specification_of};
 ghost use Rattle.ipa_reader.specs.Readings.{IsReadUpTo, IsFault};
-ghost use Rattle.ipa_reader.specs.Soundness.{IsSound};
 
 use crate::base::{refusal_at_end, state_of, universe_of};
-use crate::bounding::bounds_of;
-use crate::declared::Declared;
 use crate::document::{Document, Setup};
 use crate::document_lines::take_lines;
-use crate::numbering::{clauses_of, operations_of, predicates_of};
+use crate::element_lists::lists_of;
 use crate::refusals::DocFault;
 use crate::standing::Standing;
-use ipa_spec::Spec;
+use ipa_declared::specification_of;
 use ipa_text::last_line;
-use std::alloc::{AllocError, Global};
-
-/// The specification that is declared, by numbers.
-fn specification_of(alloc: Global, declared: Declared) -> Result<Spec, AllocError>
-    requires sound { IsSound declared }
-    requires faultless { fault_of (specification_of declared) ≡ None }
-    ensures { IfOk result (λ spec. spec ≡ specification_of declared) }
-{
-    let predicates = predicates_of(alloc, &declared)?;
-    let clauses = clauses_of(alloc, &declared)?;
-    let operations = operations_of(alloc, &declared)?;
-    let bounds = bounds_of(alloc, &declared)?;
-    match Spec::new(declared.sorts, predicates, clauses, operations, bounds) {
-        Ok(spec) => Ok(spec),
-        Err(_) => unreachable!(),
-    }
-}
+use std::alloc::Global;
 
 /// The document that stands behind all lines, or its refusal at the last one.
 fn finish(alloc: Global, bytes: &[u8], standing: Standing) -> Result<Document, DocFault>
@@ -56,11 +35,12 @@ fn finish(alloc: Global, bytes: &[u8], standing: Standing) -> Result<Document, D
             kind,
         });
     }
+    let elements = lists_of(alloc, &arranged.elements)?;
     Ok(Document {
         spec,
         setup: Setup {
             universe,
-            elements: arranged.elements,
+            elements,
             base,
             replicas: arranged.replicas as u8,
             sessions: arranged.sessions,

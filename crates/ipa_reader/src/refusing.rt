@@ -6,13 +6,13 @@ use crate::elements::{
     elements_have, elements_of, parameter_count, parameter_sorts, some_element_is_missing,
     some_wanted_is_missing,
 };
-use crate::flaws::{Flaw, arity_named, sort_has, use_has};
-use crate::judging::{limit_passed, specification_line_has};
 use crate::order::is_out_of_order;
 use crate::refusals::DocKind;
-use crate::scopes::places_of;
 use crate::sessions::SessionWork;
 use crate::standing::Standing;
+use ipa_declared::{
+    Flaw, arity_named, limit_passed, places_of, sort_has, specification_line_has, use_has,
+};
 use ipa_forms::Form;
 use ipa_spec::{List, Name, SpecFault};
 use std::alloc::{AllocError, Global};

@@ -1,0 +1,5 @@
+pub mod ScopeFacts
+pub mod PartsFaultless
+pub mod Faultless
+pub mod RepeatLemmas
+pub mod VariableLemmas

@@ -1,0 +1,12 @@
+pub mod Naming
+pub mod Declarations
+pub mod Scopes
+pub mod Flaws
+pub mod Counts
+pub mod Meaning
+pub mod Soundness
+pub mod ListLaws
+pub mod NumberLaws
+pub mod CountLaws
+pub mod GrowthLaws
+pub mod SoundLaws
