@@ -14,10 +14,12 @@ mod checking;
 mod commands;
 mod judging;
 mod status;
+mod verdict_laws;
 
 pub use checking::check_command;
 pub use commands::ipa_main;
 pub use status::Status;
+pub use verdict_laws::one_verdict;
 
 #[cfg(test)]
 mod tests;

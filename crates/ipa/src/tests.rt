@@ -6,7 +6,7 @@ mod thin;
 
 use crate::{Status, check_command, ipa_main};
 use documents::{
-    EXCLUSIVE_CUP, EXCLUSIVE_CUP_REMOVED, Row, SECOND_OF_NINE, THREE_WAY, analysed_rows,
+    CUP_BEFORE_WIDE, EXCLUSIVE_CUP_REMOVED, Row, SECOND_OF_NINE, THREE_WAY, analysed_rows,
     refused_rows,
 };
 use ipa_base::{MemorySink, MemorySource};
@@ -103,9 +103,9 @@ fn an_accepted_specification_is_handed_out(rt: HostRuntime) -> Result<(), Fail> 
 #[test]
 fn one_pair_is_analysed_alone(rt: HostRuntime) -> Result<(), Fail> {
     let alloc = rt.alloc();
-    let spec = spec_of(alloc, EXCLUSIVE_CUP)?;
-    if spec.operations().len() != 2 {
-        return Err("two operations")?;
+    let spec = spec_of(alloc, CUP_BEFORE_WIDE)?;
+    if spec.operations().len() != 3 {
+        return Err("three operations")?;
     }
     match analyse_pair(alloc, &spec, Action::Op(0), Action::Op(1)) {
         Ok(conflicts) => assert_eq!(rt; conflicts.len(), 1),

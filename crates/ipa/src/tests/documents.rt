@@ -71,7 +71,7 @@ pub fn refused_rows() -> [Row; 4] {
 }
 
 /// Documents that are analysed.
-pub fn analysed_rows() -> [Row; 11] {
+pub fn analysed_rows() -> [Row; 12] {
     [
         accepted("no bytes", ""),
         rejected("an exclusive cup", EXCLUSIVE_CUP, CUP_REPORT),
@@ -102,10 +102,15 @@ pub fn analysed_rows() -> [Row; 11] {
             WIDE,
             "refused: too wide put put k 41209\n",
         ),
+        refused(
+            "41209 patterns behind a conflict",
+            CUP_BEFORE_WIDE,
+            "refused: too wide put put k 41209\n",
+        ),
     ]
 }
 
-pub const EXCLUSIVE_CUP: &str = "\
+const EXCLUSIVE_CUP: &str = "\
 sort cup
 pred active(cup) addwins
 pred finished(cup) addwins
@@ -339,6 +344,26 @@ sort x
 sort y
 pred e(x,y) addwins
 clause k(a:x,b:x,c:y,d:y): not e(a,c) or not e(b,d)
+op put(a:x,b:x,c:y,d:y)
+add e(a,c)
+";
+
+/// A triple that is too wide, behind one in conflict.
+pub const CUP_BEFORE_WIDE: &str = "\
+sort cup
+sort x
+sort y
+pred active(cup) addwins
+pred finished(cup) addwins
+pred e(x,y) addwins
+clause ex(t:cup): not active(t) or not finished(t)
+clause k(a:x,b:x,c:y,d:y): not e(a,c) or not e(b,d)
+op begin(t:cup)
+need not finished(t)
+add active(t)
+op finish(t:cup)
+del active(t)
+add finished(t)
 op put(a:x,b:x,c:y,d:y)
 add e(a,c)
 ";

@@ -1,0 +1,14 @@
+use Rattle.ipa.proofs.VerdictLemmas.{AreOne, one-verdict}
+use Rattle.ipa.proofs.verdict_laws.one_verdict.Goals as goal
+
+pub returns : goal.returns
+returns c =
+    let laws : AreOne = record {
+      documents = c.one_reading.ensures.documents;
+      refusals = c.one_reading.ensures.refusals;
+      apart = c.one_reading.ensures.apart;
+      faultless = c.document_faultless.ensures;
+      analysis = c.one_analysis.ensures.analysis;
+      too_wide = c.one_refusal.ensures.too_wide;
+    } in
+    one-verdict laws
