@@ -6,8 +6,8 @@
 //! is broken without facts and elements, is refused for that instance.
 //!
 //! ```
-//! let text = print_spec(alloc, &document.spec)?;   // of a document that was read
-//! read_document(alloc, text.as_bytes())            // has the same specification, or that refusal
+//! let text = print_spec(alloc, &document.spec)?; // of a document that was read
+//! read_document(alloc, &text) // has the same specification, or that refusal
 //! ```
 #![tactic(auto)]
 
