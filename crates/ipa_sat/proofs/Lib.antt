@@ -1,6 +1,14 @@
+pub mod Checked
+pub mod Explained
 pub mod Finishing
+pub mod Grown
+pub mod Jumping
+pub mod Learned
+pub mod Literals
 pub mod Looking
+pub mod Progressing
+pub mod Refuting
 pub mod Soundness
+pub mod Stepping
 pub mod Steps
-pub mod Trying
 pub mod Turning

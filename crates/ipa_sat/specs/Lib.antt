@@ -1,5 +1,10 @@
+pub mod Answers
+pub mod Checking
+pub mod Explaining
 pub mod Formula
-pub mod Plain
+pub mod Learning
+pub mod Looking
+pub mod Refutation
 pub mod Search
 pub mod Trail
 pub mod Turns

@@ -14,25 +14,35 @@
 //! least(alloc, &cnf)?        // Some([false, true])
 //! ```
 //!
+//! [`solve_shown`] answers an assignment, or a refutation where there is none: a list of clauses
+//! ([`Step`]), each of which follows by unit propagation from the formula and the earlier ones, and
+//! the last of which is empty. [`check_steps`] tells whether a list is a refutation, and [`is_satisfied`]
+//! whether an assignment satisfies a formula.
+//!
 //! Inside, `trail` holds the literals that are taken to be true, `look` and `visit` read one clause
 //! under them, `watches` says which clauses to look at after a step, `propagate` takes what
-//! follows, and `search` decides and turns round; `assignment` looks at a finished assignment.
+//! follows, `explain` and `learn` make a clause of each conflict, and `search` decides;
+//! `assignment` looks at a finished assignment. `check` stands on `trail` and `look` alone.
 #![tactic(auto)]
 
+mod answer;
 mod assignment;
+mod check;
 mod cnf;
+mod explain;
+mod learn;
 mod list;
 mod look;
 mod propagate;
+mod refutation;
 mod search;
 mod trail;
 mod visit;
 mod watches;
 
+pub use answer::{least, solve, solve_shown};
+pub use assignment::is_satisfied;
+pub use check::check_steps;
 pub use cnf::{Cnf, Lit};
-pub use search::{least, solve};
-
-#[cfg(test)]
-mod plain;
-#[cfg(test)]
-mod tests;
+pub use list::List;
+pub use refutation::{Solved, Step};

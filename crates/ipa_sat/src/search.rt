@@ -1,23 +1,27 @@
-//! The search for the first satisfying assignment: variables are denied in order, and a refuted
-//! choice is turned round where it was made.
+//! The search for the first satisfying assignment: variables are denied in order, and each conflict
+//! teaches a clause.
 //!
 //! The trail holds the decided literals, each the denial of the first variable that was open, and
-//! between them the literals that follow from the formula and the decisions before. Where the
-//! decisions are refuted, the last of them is taken back, and its opposite follows from those
-//! before it. So each assignment that the search has passed by is refuted or comes later, and the
-//! one that it finds is the first.
+//! between them the literals that follow from the formula and the decisions before. Where a clause
+//! is false, the clauses that the false literals follow from are resolved with it, until the
+//! resolvent has one literal of the last level alone. It follows from the formula and is put to it,
+//! and the search goes back to the level of its second last literal, where it forces the last. So
+//! each assignment that the search has passed by does not satisfy the formula or comes later, and
+//! the one that it finds is the first. It ends, since with each conflict a step that follows takes
+//! the place of a decision.
 
-ghost use Rattle.std.specs.Prelude.{◌≡◌, ◌<◌, [], ◌∷◌, ◌++◌, false, None, IfOk, OnOk, IfSome, IfNone};
+ghost use Rattle.std.specs.Prelude.{◌≡◌, ◌<◌, [], ◌∷◌, ◌++◌, None, IfOk, OnOk, IfSome, IfNone};
 ghost use Rattle.ipa_sat.specs.Formula.{IsLeast, IsUnsatisfiable, Satisfies};
 ghost use Rattle.ipa_sat.specs.Trail.{known, denial};
-ghost use Rattle.ipa_sat.specs.Search.{IsSound, IsRefuted};
-ghost use Rattle.ipa_sat.specs.Turns.{IsPosition, IsFirstOpen, AreKnown, has_decision, Undoes, Turns, TurnsAnyhow};
+ghost use Rattle.ipa_sat.specs.Search.{IsReasoned, IsBrokenAt};
+ghost use Rattle.ipa_sat.specs.Learning.{IsRefutedBy};
+ghost use Rattle.ipa_sat.specs.Turns.{IsPosition, IsFirstOpen, AreKnown, Turns};
 
-use crate::assignment::is_satisfied;
+use crate::assignment::first_false;
 use crate::cnf::{Cnf, Lit};
+use crate::learn::learn;
 use crate::propagate::{propagate, start};
-use crate::trail::{Step, Trail};
-use crate::visit::take;
+use crate::trail::{Taken, Trail};
 use crate::watches::Watches;
 use std::alloc::{AllocError, Global};
 
@@ -28,49 +32,35 @@ enum Turn {
     Found(Vec<bool>),
     /// There is none.
     Impossible,
-    /// The search goes on from this variable.
+    /// The search goes on; each variable below this one has a value.
     Next(u32),
 }
 
-/// Takes steps back up to the last decision, and it too. Answers the variable that it denied.
-fn undo(trail: &mut Trail) -> Option<u32>
-    ensures undone { IfSome result (Undoes trail.old trail.new) }
-    ensures none { IfNone result (has_decision trail.old.steps ≡ false) }
+/// Learns from a false clause, given by its place.
+fn turn_round(
+    alloc: Global,
+    cnf: &mut Cnf,
+    trail: &mut Trail,
+    watches: &mut Watches,
+    place: usize,
+) -> Result<Turn, AllocError>
+    requires reasoned { IsReasoned cnf.old trail.old }
+    requires is_broken { IsBrokenAt cnf.old trail.old place }
+    ensures { IfOk result (Turns cnf.old cnf.new trail.old trail.new) }
 {
-    while let Some(step) = trail.pop() {
-        if step.decided {
-            return Some(step.lit.var);
-        }
+    if learn(alloc, cnf, trail, watches, place)? {
+        Ok(Turn::Next(0))
+    } else {
+        Ok(Turn::Impossible)
     }
-    None
 }
 
-/// Turns round the last decision, since the decisions are refuted.
-fn turn_round(cnf: &Cnf, trail: &mut Trail, watches: &mut Watches) -> Result<Turn, AllocError>
-    requires sound { IsSound cnf.now trail.old }
-    requires refuted { IsRefuted cnf.now trail.old.steps }
-    ensures { IfOk result (TurnsAnyhow cnf.now trail.old trail.new) }
-{
-    let Some(var) = undo(trail) else {
-        return Ok(Turn::Impossible);
-    };
-    watches.rewind(trail.len());
-    take(
-        cnf,
-        trail,
-        Lit {
-            var,
-            positive: true,
-        },
-    )?;
-    Ok(Turn::Next(var + 1))
-}
-
-/// The first variable without a value among `from..end`.
+/// The first variable below `end` without a value, where each below `from` has one.
 fn first_open(trail: &Trail, from: u32, end: u32) -> Option<u32>
-    requires { end ≡ trail.now.vars }
-    ensures all { IfNone result (AreKnown trail.now.steps from end) }
-    ensures first { IfSome result (IsFirstOpen trail.now.steps from end) }
+    requires vars { end ≡ trail.now.vars }
+    requires lower { AreKnown trail.now.steps from }
+    ensures all { IfNone result (AreKnown trail.now.steps end) }
+    ensures first { IfSome result (IsFirstOpen trail.now.steps end) }
 {
     for var in from..end {
         if trail.value(var).is_none() {
@@ -83,19 +73,18 @@ fn first_open(trail: &Trail, from: u32, end: u32) -> Option<u32>
 /// Reads the assignment off a trail that has a value for each variable.
 fn finish(
     alloc: Global,
-    cnf: &Cnf,
+    cnf: &mut Cnf,
     trail: &mut Trail,
     watches: &mut Watches,
 ) -> Result<Turn, AllocError>
-    requires sound { IsSound cnf.now trail.old }
-    requires all { AreKnown trail.old.steps 0 cnf.now.vars }
-    ensures { IfOk result (TurnsAnyhow cnf.now trail.old trail.new) }
+    requires reasoned { IsReasoned cnf.old trail.old }
+    requires all { AreKnown trail.old.steps cnf.old.vars }
+    ensures { IfOk result (Turns cnf.old cnf.new trail.old trail.new) }
 {
     let values = trail.read(alloc)?;
-    if is_satisfied(cnf, values.as_slice()) {
-        Ok(Turn::Found(values))
-    } else {
-        turn_round(cnf, trail, watches)
+    match first_false(cnf, values.as_slice()) {
+        None => Ok(Turn::Found(values)),
+        Some(place) => turn_round(alloc, cnf, trail, watches, place),
     }
 }
 
@@ -105,32 +94,31 @@ fn deny(trail: &mut Trail, var: u32) -> Result<(), AllocError>
     requires open_yet { known trail.old.steps var ≡ None }
     ensures { OnOk result (trail.new ≡ record trail.old { steps = trail.old.steps ++ denial var ∷ [] }) }
 {
-    trail.push(Step {
+    trail.push(Taken {
         lit: Lit {
             var,
             positive: false,
         },
         decided: true,
+        reason: 0,
     })?;
     Ok(())
 }
 
-/// One turn of the search: propagates, and then decides, finishes or turns round.
-fn turn_once(
+/// Decides the first open variable, or finishes where there is none.
+fn decide(
     alloc: Global,
-    cnf: &Cnf,
+    cnf: &mut Cnf,
     trail: &mut Trail,
     watches: &mut Watches,
     at: u32,
 ) -> Result<Turn, AllocError>
-    requires { IsPosition cnf.now trail.old at }
-    ensures { IfOk result (Turns cnf.now trail.old at trail.new) }
+    requires { IsPosition cnf.old trail.old at }
+    ensures { IfOk result (Turns cnf.old cnf.new trail.old trail.new) }
 {
-    if !propagate(cnf, trail, watches)? {
-        return turn_round(cnf, trail, watches);
-    }
     match first_open(trail, at, cnf.vars()) {
         Some(var) => {
+            let _steps = trail.len();
             deny(trail, var)?;
             Ok(Turn::Next(var + 1))
         }
@@ -138,16 +126,36 @@ fn turn_once(
     }
 }
 
-/// The first satisfying assignment of a formula whose forced literals are on the trail.
+/// One turn of the search: propagates, and then learns, decides or finishes.
+fn turn_once(
+    alloc: Global,
+    cnf: &mut Cnf,
+    trail: &mut Trail,
+    watches: &mut Watches,
+    at: u32,
+) -> Result<Turn, AllocError>
+    requires { IsPosition cnf.old trail.old at }
+    ensures { IfOk result (Turns cnf.old cnf.new trail.old trail.new) }
+{
+    let broken = propagate(cnf, trail, watches)?;
+    let _steps = trail.len();
+    match broken {
+        Some(place) => turn_round(alloc, cnf, trail, watches, place),
+        None => decide(alloc, cnf, trail, watches, at),
+    }
+}
+
+/// The first satisfying assignment of a formula from a trail on whose steps follow; the formula
+/// grows by what is learned.
 fn search(
     alloc: Global,
-    cnf: &Cnf,
+    cnf: &mut Cnf,
     trail: &mut Trail,
     watches: &mut Watches,
 ) -> Result<Option<Vec<bool>>, AllocError>
-    requires { IsSound cnf.now trail.old }
-    ensures found { IfOk result (λ answer. IfSome answer (λ a. IsLeast cnf.now a.items)) }
-    ensures none { IfOk result (λ answer. IfNone answer (IsUnsatisfiable cnf.now)) }
+    requires { IsReasoned cnf.old trail.old }
+    ensures found { IfOk result (λ answer. IfSome answer (λ a. IsLeast cnf.old a.items)) }
+    ensures none { IfOk result (λ answer. IfNone answer (IsRefutedBy cnf.old cnf.new)) }
 {
     let mut at = 0;
     'turns: loop {
@@ -159,39 +167,50 @@ fn search(
     }
 }
 
-/// The first satisfying assignment of a formula, from a trail without steps and without watches.
-fn search_anew(
+/// The first satisfying assignment of a formula from a trail on under which a clause is false.
+fn search_after(
     alloc: Global,
-    cnf: &Cnf,
+    cnf: &mut Cnf,
     trail: &mut Trail,
     watches: &mut Watches,
+    place: usize,
 ) -> Result<Option<Vec<bool>>, AllocError>
-    requires { trail.old ≡ record { vars = cnf.now.vars; steps = [] } }
-    ensures found { IfOk result (λ answer. IfSome answer (λ a. IsLeast cnf.now a.items)) }
-    ensures none { IfOk result (λ answer. IfNone answer (IsUnsatisfiable cnf.now)) }
+    requires reasoned { IsReasoned cnf.old trail.old }
+    requires is_broken { IsBrokenAt cnf.old trail.old place }
+    ensures found { IfOk result (λ answer. IfSome answer (λ a. IsLeast cnf.old a.items)) }
+    ensures none { IfOk result (λ answer. IfNone answer (IsRefutedBy cnf.old cnf.new)) }
 {
-    if start(cnf, trail, watches)? {
+    if learn(alloc, cnf, trail, watches, place)? {
         search(alloc, cnf, trail, watches)
     } else {
         Ok(None)
     }
 }
 
-/// The first assignment, in lexicographic order from variable 0 with false before true, that makes
-/// each clause of the formula true; None exactly where there is none.
-pub fn least(alloc: Global, cnf: &Cnf) -> Result<Option<Vec<bool>>, AllocError>
-    ensures found { IfOk result (λ answer. IfSome answer (λ a. IsLeast cnf.now a.items)) }
-    ensures none { IfOk result (λ answer. IfNone answer (IsUnsatisfiable cnf.now)) }
+/// The first satisfying assignment of a formula, from a trail without steps and without watches.
+fn search_with(
+    alloc: Global,
+    cnf: &mut Cnf,
+    trail: &mut Trail,
+    watches: &mut Watches,
+) -> Result<Option<Vec<bool>>, AllocError>
+    requires { trail.old ≡ record { vars = cnf.old.vars; steps = [] } }
+    ensures found { IfOk result (λ answer. IfSome answer (λ a. IsLeast cnf.old a.items)) }
+    ensures none { IfOk result (λ answer. IfNone answer (IsRefutedBy cnf.old cnf.new)) }
+{
+    match start(cnf, trail, watches)? {
+        None => search(alloc, cnf, trail, watches),
+        Some(place) => search_after(alloc, cnf, trail, watches, place),
+    }
+}
+
+/// The first satisfying assignment of a formula. Where there is none, the formula has grown by
+/// clauses that show it.
+pub(crate) fn search_anew(alloc: Global, cnf: &mut Cnf) -> Result<Option<Vec<bool>>, AllocError>
+    ensures found { IfOk result (λ answer. IfSome answer (λ a. IsLeast cnf.old a.items)) }
+    ensures none { IfOk result (λ answer. IfNone answer (IsRefutedBy cnf.old cnf.new)) }
 {
     let mut trail = Trail::new(alloc, cnf.vars())?;
     let mut watches = Watches::new(alloc, cnf.vars())?;
-    search_anew(alloc, cnf, &mut trail, &mut watches)
-}
-
-/// An assignment that makes each clause of the formula true; None exactly where there is none.
-pub fn solve(alloc: Global, cnf: &Cnf) -> Result<Option<Vec<bool>>, AllocError>
-    ensures found { IfOk result (λ answer. IfSome answer (λ a. Satisfies cnf.now a.items)) }
-    ensures none { IfOk result (λ answer. IfNone answer (IsUnsatisfiable cnf.now)) }
-{
-    least(alloc, cnf)
+    search_with(alloc, cnf, &mut trail, &mut watches)
 }

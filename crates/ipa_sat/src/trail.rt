@@ -10,15 +10,17 @@ use std::marker::Model;
 
 /// A literal that is taken to be true: decided at will, or following from the steps before.
 #[derive(Clone, Copy)]
-pub(crate) struct Step {
+pub(crate) struct Taken {
     pub lit: Lit,
     pub decided: bool,
+    /// The place of the clause that it follows from, if it was not decided.
+    pub reason: usize,
 }
 
 /// The steps of a search, no two of one variable.
 #[derive(Drop)]
 pub(crate) struct Trail {
-    steps: Vec<Step>,
+    steps: Vec<Taken>,
     values: Vec<Option<bool>>,
 }
 
@@ -75,7 +77,7 @@ impl Trail {
     }
 
     /// Takes one more step, of a variable without a value.
-    pub fn push(&mut self, step: Step) -> Result<(), AllocError>
+    pub fn push(&mut self, step: Taken) -> Result<(), AllocError>
         requires in_range { step.lit.var < self.old.vars }
         requires fresh { known self.old.steps step.lit.var ≡ None }
         ensures ok { OnOk result (self.new ≡ record self.old { steps = self.old.steps ++ step ∷ [] }) }
@@ -87,11 +89,12 @@ impl Trail {
     }
 
     /// Takes back the last step, if there is one.
-    pub fn pop(&mut self) -> Option<Step>
+    pub fn pop(&mut self) -> Option<Taken>
         ensures vars { self.new.vars ≡ self.old.vars }
         ensures small { self.new.vars < 2 ^ 32 }
         ensures steps { self.old.steps ≡ self.new.steps ++ option_to_list result }
         ensures new { IfSome result (IsNew self.new.vars self.new.steps) }
+        ensures all { EachStep (IsNew self.new.vars) self.new.steps }
         ensures none { IfNone result (self.old.steps ≡ []) }
     {
         let step = self.steps.pop()?;
@@ -101,9 +104,17 @@ impl Trail {
 
     /// The number of steps.
     pub fn len(&self) -> usize
-        ensures { result ≡ length self.now.steps }
+        ensures length { result ≡ length self.now.steps }
+        ensures new { EachStep (IsNew self.now.vars) self.now.steps }
     {
         self.steps.len()
+    }
+
+    /// A step, by its place from 0.
+    pub fn step(&self, place: usize) -> Option<Taken>
+        ensures { result ≡ slice_get self.now.steps place }
+    {
+        self.steps.get(place).copied()
     }
 
     /// The literal of a step, by the step's place from 0.
