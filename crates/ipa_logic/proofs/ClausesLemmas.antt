@@ -12,7 +12,7 @@ use Rattle.ipa_logic.specs.declared.facts.Fact.{Fact}
 module _ (s : Specification) (universe : Universe) (t : Fact → Bool) where
   -- the test of a clause's values
   abbrev pub passes : Clause → List ℕ → Bool
-  passes c v = instance_true s.predicates t v c
+  passes c v = instance_true s t v c
 
   -- the clause is kept where all values pass
   pub keep-passed : (n : ℕ) (c : Clause) (values : List ℕ) → slice_get s.clauses n ≡ Some c → KeepBelow s universe t n → PassFrom (passes c) universe (sorts_of_vars c.vars) values 0 → KeepBelow s universe t (n + 1)

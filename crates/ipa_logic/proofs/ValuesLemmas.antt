@@ -3,14 +3,14 @@ use Rattle.std.proofs.Common.{◌≡◌, ℕ, ◌+◌, ◌<◌, ◌≤◌, Bool,
 use Rattle.std.proofs.lemmas.Bool.{cases_lt}
 use Rattle.std.specs.List.{slice_set}
 use Rattle.ipa_logic.specs.Facts.{Universe, size_of}
-use Rattle.ipa_logic.specs.Truth.{element_of, IsOver}
+use Rattle.ipa_logic.specs.Truth.{value_at, IsOver}
 use Rattle.ipa_logic.specs.Values.{IsPartial, Agrees, PassFrom, IsFirstFrom}
 use Rattle.ipa_logic.specs.ValueLaws.{over-done, same-done, agrees-next, agrees-before, earlier-next, not_earlier}
 
 module _ (p : List ℕ → Bool) (universe : Universe) (sorts : List ℕ) where
   -- what the search knows before it tries x in the place
   pub record PassBelow (values : List ℕ) (place x : ℕ) : Type 0 where
-    pub passes : (v : List ℕ) → IsOver universe sorts v → Agrees place v values → element_of v place < x → p v ≡ true
+    pub passes : (v : List ℕ) → IsOver universe sorts v → Agrees place v values → value_at v place < x → p v ≡ true
 
   pub pass-done : (values : List ℕ) (place : ℕ) → IsPartial universe sorts values place → length sorts ≤ place → p values ≡ true → PassFrom p universe sorts values place
   pass-done values place h e t = record { passes = λ v o a. ap p (same-done universe sorts values place h e v o a) ∙ t }
@@ -28,7 +28,7 @@ module _ (p : List ℕ → Bool) (universe : Universe) (sorts : List ℕ) where
 
   pub below-next : (values : List ℕ) (place x : ℕ) → place < length values → PassBelow values place x → PassFrom p universe sorts (slice_set values place x) (place + 1) → PassBelow values place (x + 1)
   below-next values place x inside b f = record {
-    passes = λ v o a l. elim (cases_lt (element_of v place) x) [
+    passes = λ v o a l. elim (cases_lt (value_at v place) x) [
       | inl lt ↦ b.passes v o a lt
       | inr ge ↦ f.passes v o (agrees-next values v place x inside a (omega arith))
     ];
@@ -47,4 +47,4 @@ module _ (p : List ℕ → Bool) (universe : Universe) (sorts : List ℕ) where
   }
 
   pub pass-all : (values : List ℕ) (place sort x : ℕ) → slice_get sorts place ≡ Some sort → size_of universe sort ≤ x → PassBelow values place x → PassFrom p universe sorts values place
-  pass-all values place sort x g le b = record { passes = λ v o a. let l : element_of v place < size_of universe sort = o.elements place sort g in b.passes v o a (omega arith) }
+  pass-all values place sort x g le b = record { passes = λ v o a. let l : value_at v place < size_of universe sort = o.elements place sort g in b.passes v o a (omega arith) }

@@ -23,28 +23,28 @@ clause_at items clauses i c e l at = subst (λ (xs : List Clause). slice_get xs 
 module _ (s : Specification) (universe : Universe) (t : Fact → Bool) where
   -- the clauses before this number are kept
   pub record KeepBelow (n : ℕ) : Type 0 where
-    pub clauses : (k : ℕ) (c : Clause) → k < n → slice_get s.clauses k ≡ Some c → KeepsClause s.predicates universe t c
+    pub clauses : (k : ℕ) (c : Clause) → k < n → slice_get s.clauses k ≡ Some c → KeepsClause s universe t c
 
   -- none is before the first
   pub keep-none : KeepBelow 0
   keep-none = record { clauses = λ k c l e. absurd (omega arith) }
 
   -- one more is kept
-  pub keep-next : (n : ℕ) (c : Clause) → slice_get s.clauses n ≡ Some c → KeepBelow n → KeepsClause s.predicates universe t c → KeepBelow (n + 1)
+  pub keep-next : (n : ℕ) (c : Clause) → slice_get s.clauses n ≡ Some c → KeepBelow n → KeepsClause s universe t c → KeepBelow (n + 1)
   keep-next n c e b f = record {
     clauses = λ k d l g. elim (cases_lt k n) [
       | inl lt ↦ b.clauses k d lt g
       | inr ge ↦ let at : k ≡ n = omega arith in
           let same : Some c ≡ Some d = sym e ∙ (sym (ap (slice_get s.clauses) at) ∙ g) in
           let here : c ≡ d = cc in
-          subst (λ (q : Clause). KeepsClause s.predicates universe t q) here f
+          subst (λ (q : Clause). KeepsClause s universe t q) here f
     ];
   }
 
   -- where the next is not kept, its first values under which it is not true are the first broken instance
   pub keep-first : (n : ℕ) (c : Clause) (r : List ℕ) → slice_get s.clauses n ≡ Some c → KeepBelow n
-      → IsOver universe (sorts_of_vars c.vars) r → instance_true s.predicates t r c ≡ false
-      → ((v : List ℕ) → IsOver universe (sorts_of_vars c.vars) v → IsEarlier v r → instance_true s.predicates t v c ≡ true)
+      → IsOver universe (sorts_of_vars c.vars) r → instance_true s t r c ≡ false
+      → ((v : List ℕ) → IsOver universe (sorts_of_vars c.vars) v → IsEarlier v r → instance_true s t v c ≡ true)
       → IsFirstBroken s universe t n r
   keep-first n c r e b over fails earlier = record {
     clause = c;

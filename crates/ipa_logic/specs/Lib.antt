@@ -1,6 +1,7 @@
 pub mod Facts
 pub mod Truth
 pub mod Touches
+pub mod Requests
 pub mod Groups
 pub mod DueDrops
 pub mod Conflicts
@@ -11,6 +12,10 @@ pub mod Values
 pub mod OrderLaws
 pub mod FactLaws
 pub mod NextLaws
+pub mod EitherLaws
+pub mod Walks
+pub mod FilterLaws
+pub mod WalkLaws
 pub mod VariableLaws
 pub mod ValueLaws
 pub mod ClauseLaws
@@ -18,3 +23,8 @@ pub mod FitLaws
 pub mod Renaming
 pub mod RenamingLaws
 pub mod RestrictionLaws
+pub mod TouchLaws
+pub mod StandingLaws
+pub mod DropLaws
+pub mod Applied
+pub mod AppliedLaws

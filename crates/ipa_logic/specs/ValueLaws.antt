@@ -14,7 +14,7 @@ use Rattle.std.proofs.lemmas.Bool.{cases_lt, cases_eq}
 use Rattle.std.proofs.lemmas.Grind.{same_number_lists}
 use Rattle.std.specs.List.{slice_set}
 use Rattle.ipa_logic.specs.Facts.{Universe, size_of}
-use Rattle.ipa_logic.specs.Truth.{element_of, IsOver, IsEarlier}
+use Rattle.ipa_logic.specs.Truth.{value_at, IsOver, IsEarlier}
 use Rattle.ipa_logic.specs.Values.{IsPartial, Agrees}
 
 module _ (universe : Universe) (sorts : List ℕ) where
@@ -51,7 +51,7 @@ module _ (universe : Universe) (sorts : List ℕ) where
 
 module _ (values : List ℕ) where
   -- values that agree so far, and have the element in the place, agree one place further
-  pub agrees-next : (v : List ℕ) (place x : ℕ) → place < length values → Agrees place v values → element_of v place ≡ x → Agrees (place + 1) v (slice_set values place x)
+  pub agrees-next : (v : List ℕ) (place x : ℕ) → place < length values → Agrees place v values → value_at v place ≡ x → Agrees (place + 1) v (slice_set values place x)
   agrees-next v place x inside a e k l = elim (cases_eq k place) [
     | inl same ↦ rw (same, get_or-set_same values place x 0 inside) e
     | inr ne ↦ a k (omega arith) ∙ sym (get_or-set_other values place k x 0 ne)
@@ -63,17 +63,17 @@ module _ (values : List ℕ) where
 
   -- earlier values that agree so far have a lesser element in the place, or agree one place further
   pub earlier-next : (r v : List ℕ) (place x : ℕ) → place < length values → Agrees (place + 1) r (slice_set values place x) → Agrees place v values → IsEarlier v r
-      → (element_of v place < x) ⊎ Agrees (place + 1) v (slice_set values place x)
+      → (value_at v place < x) ⊎ Agrees (place + 1) v (slice_set values place x)
   earlier-next r v place x inside f a w =
-      let here : element_of r place ≡ x = f place (omega arith) ∙ get_or-set_same values place x 0 inside in
+      let here : value_at r place ≡ x = f place (omega arith) ∙ get_or-set_same values place x 0 inside in
       elim (cases_lt w.place place) [
-        | inl lt ↦ absurd (let s : element_of v w.place ≡ element_of r w.place = a w.place lt ∙ sym (agrees-before r place x f w.place lt) in omega (arith, w.less))
+        | inl lt ↦ absurd (let s : value_at v w.place ≡ value_at r w.place = a w.place lt ∙ sym (agrees-before r place x f w.place lt) in omega (arith, w.less))
         | inr ge ↦ elim (cases_eq w.place place) [
-          | inl same ↦ inl (let less : element_of v place < element_of r place = subst (λ (q : ℕ). element_of v q < element_of r q) same w.less in omega arith)
+          | inl same ↦ inl (let less : value_at v place < value_at r place = subst (λ (q : ℕ). value_at v q < value_at r q) same w.less in omega arith)
           | inr ne ↦ inr (agrees-next v place x inside a (w.same place (omega arith) ∙ here))
         ]
       ]
 
 -- values are not earlier than themselves
 pub not_earlier : (v w : List ℕ) → v ≡ w → IsEarlier v w → ⊥
-not_earlier v w e h = let here : element_of v h.place ≡ element_of w h.place = ap (λ (u : List ℕ). element_of u h.place) e in omega (arith, h.less)
+not_earlier v w e h = let here : value_at v h.place ≡ value_at w h.place = ap (λ (u : List ℕ). value_at u h.place) e in omega (arith, h.less)

@@ -6,18 +6,18 @@
 --   IsFirstFrom                             the first of them on which it does not
 use Rattle.std.specs.Prelude.{◌≡◌, ℕ, ◌<◌, ◌≤◌, Bool, true, false, List, length, slice_get, Some}
 use Rattle.ipa_logic.specs.Facts.{Universe, size_of}
-use Rattle.ipa_logic.specs.Truth.{element_of, IsOver, IsEarlier}
+use Rattle.ipa_logic.specs.Truth.{value_at, IsOver, IsEarlier}
 
 -- the variables before the place have elements of their sorts, and 0 stands from it on
 pub record IsPartial (universe : Universe) (sorts values : List ℕ) (place : ℕ) : Type 0 where
   pub within : place ≤ length sorts
-  pub elements : (v sort : ℕ) → v < place → slice_get sorts v ≡ Some sort → element_of values v < size_of universe sort
-  pub unused : (v : ℕ) → place ≤ v → element_of values v ≡ 0
+  pub elements : (v sort : ℕ) → v < place → slice_get sorts v ≡ Some sort → value_at values v < size_of universe sort
+  pub unused : (v : ℕ) → place ≤ v → value_at values v ≡ 0
   pub width : length values ≡ 4
 
 -- v and w are the same before the place
 abbrev pub Agrees : ℕ → List ℕ → List ℕ → Type 0
-Agrees place v w = (k : ℕ) → k < place → element_of v k ≡ element_of w k
+Agrees place v w = (k : ℕ) → k < place → value_at v k ≡ value_at w k
 
 -- p passes on all values that agree with these before the place
 pub record PassFrom (p : List ℕ → Bool) (universe : Universe) (sorts values : List ℕ) (place : ℕ) : Type 0 where

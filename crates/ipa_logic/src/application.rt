@@ -3,7 +3,7 @@ ghost use Rattle.std.specs.Prelude.{◌≡◌, ◌&&◌, ◌||◌, not, OnOk, On
 ghost use Rattle.std.specs.Ordering.{is_eq};
 ghost use Rattle.ipa_spec.specs.Actions.{effects_of};
 ghost use Rattle.ipa_logic.specs.Facts.{has, fact_cmp, IsRising};
-ghost use Rattle.ipa_logic.specs.Touches.{gives, adds, some_takes, plain_application};
+ghost use Rattle.ipa_logic.specs.Touches.{gives, some_gives, some_takes, IsAfter};
 
 use crate::effects::{fact_given, matches_remove};
 use crate::facts::Fact;
@@ -19,17 +19,16 @@ pub fn apply_plain(
     args: &[u16; 4],
     state: &State,
 ) -> Result<State, AllocError>
-    ensures facts { IfOk result (λ after. (f : Fact) → has after f ≡ plain_application (effects_of spec.now action) args.now (has state.now) f) }
-    ensures rising { IfOk result IsRising }
+    ensures { IfOk result (λ after. IsAfter spec.now action args.now state.now after) }
 {
     let mut after = without_removed(alloc, spec, action, args, state)?;
     match action {
         Action::Op(number) => match spec.operations().get(number as usize) {
-            Some(operation) => insert_given(&mut after, operation.effects.as_slice(), args)?,
+            Some(operation) => insert_given(&mut after, spec, operation.effects.as_slice(), args)?,
             None => (),
         },
         Action::Drop(number) => match spec.bounds().get(number as usize) {
-            Some(bound) => insert_given(&mut after, bound.removes.as_slice(), args)?,
+            Some(bound) => insert_given(&mut after, spec, bound.removes.as_slice(), args)?,
             None => (),
         },
     }
@@ -44,7 +43,7 @@ fn without_removed(
     args: &[u16; 4],
     state: &State,
 ) -> Result<State, AllocError>
-    ensures { IfOk result (λ left. (f : Fact) → has left f ≡ (has state.now f && not (some_takes (effects_of spec.now action) args.now f))) }
+    ensures { IfOk result (λ left. (f : Fact) → has left f ≡ (has state.now f && not (some_takes spec.now (effects_of spec.now action) args.now f))) }
 {
     let mut left = State::new(alloc);
     for fact in state.facts.iter() {
@@ -61,7 +60,7 @@ fn keep_unless_removed(
     args: &[u16; 4],
     fact: &Fact,
 ) -> Result<(), AllocError>
-    ensures { OnOk result ((f : Fact) → has left.new f ≡ ((is_eq (fact_cmp fact.now f) && not (some_takes (effects_of spec.now action) args.now f)) || has left.old f)) }
+    ensures { OnOk result ((f : Fact) → has left.new f ≡ ((is_eq (fact_cmp fact.now f) && not (some_takes spec.now (effects_of spec.now action) args.now f)) || has left.old f)) }
 {
     if matches_remove(spec, action, args, fact) {
         return Ok(());
@@ -71,22 +70,32 @@ fn keep_unless_removed(
 }
 
 // Makes the facts true that the adds among the effects give.
-fn insert_given(state: &mut State, effects: &[Effect], args: &[u16; 4]) -> Result<(), AllocError>
-    ensures { OnOk result ((f : Fact) → has state.new f ≡ (adds effects.now args.now f || has state.old f)) }
+fn insert_given(
+    state: &mut State,
+    spec: &Spec,
+    effects: &[Effect],
+    args: &[u16; 4],
+) -> Result<(), AllocError>
+    ensures { OnOk result ((f : Fact) → has state.new f ≡ (some_gives spec.now effects.now args.now f || has state.old f)) }
 {
     for effect in effects {
-        insert_if_add(state, effect, args)?;
+        insert_if_add(state, spec, effect, args)?;
     }
     Ok(())
 }
 
 // Makes the fact true that the effect gives, where it is an add.
-fn insert_if_add(state: &mut State, effect: &Effect, args: &[u16; 4]) -> Result<(), AllocError>
-    ensures { OnOk result ((f : Fact) → has state.new f ≡ (gives args.now f effect.now || has state.old f)) }
+fn insert_if_add(
+    state: &mut State,
+    spec: &Spec,
+    effect: &Effect,
+    args: &[u16; 4],
+) -> Result<(), AllocError>
+    ensures { OnOk result ((f : Fact) → has state.new f ≡ (gives spec.now args.now f effect.now || has state.old f)) }
 {
     if !effect.add {
         return Ok(());
     }
-    state.insert(fact_given(effect, args))?;
+    state.insert(fact_given(spec, effect, args))?;
     Ok(())
 }

@@ -10,6 +10,16 @@ pub struct Fact {
     pub args: [u16; 3],
 }
 
+/// How young a true fact is: the size of the transaction that added it, and its origin. Ages are ordered by size,
+/// and then by origin; a fact that no transaction touches has the age 0, 0.
+#[derive(Clone, Copy, PartialEq, Eq, PartialOrd, Ord)]
+pub struct Age {
+    /// One more than the number of transactions that were known where the fact was added.
+    pub size: u64,
+    /// The origin of the transaction that added it.
+    pub origin: u8,
+}
+
 /// The number of elements of each sort. The elements of a sort are the numbers below it.
 #[derive(Clone, Copy, PartialEq, Eq)]
 pub struct Universe {

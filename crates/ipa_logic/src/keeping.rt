@@ -5,13 +5,14 @@
 ghost use Rattle.std.specs.Prelude.{◌≡◌, ℕ, ◌<◌, ◌≤◌, Some, length, slice_get, MatchOption};
 ghost use Rattle.ipa_spec.specs.Actions.{sorts_of_vars};
 ghost use Rattle.ipa_logic.specs.Facts.{has, size_of};
-ghost use Rattle.ipa_logic.specs.Truth.{element_of, instance_true, IsOver, Keeps, KeepsClause, IsFirstBroken};
+ghost use Rattle.ipa_logic.specs.Truth.{value_at, instance_true, IsOver, Keeps, KeepsClause, IsFirstBroken};
 ghost use Rattle.ipa_logic.specs.Values.{IsPartial, PassFrom, IsFirstFrom};
 
 use crate::facts::{Broken, Universe};
 use crate::literals::holds_instance;
 use crate::state::State;
 use crate::view::View;
+use ipa_spec::laws::spec_is_fit;
 use ipa_spec::{Clause, Spec};
 
 /// The first instance that is not true in the state, by clause and then by values, or `None` where
@@ -19,6 +20,7 @@ use ipa_spec::{Clause, Spec};
 pub fn keeps(spec: &Spec, universe: &Universe, state: &State) -> Option<Broken>
     ensures { MatchOption result (Keeps spec.now universe.now.sizes (has state.now)) (λ broken. IsFirstBroken spec.now universe.now.sizes (has state.now) broken.clause broken.values) }
 {
+    spec_is_fit(spec);
     for (number, clause) in spec.clauses().as_slice().iter().enumerate() {
         if let Some(values) = first_broken_values(spec, universe, state, clause, 0, [0; 4]) {
             return Some(Broken {
@@ -42,8 +44,8 @@ fn first_broken_values<V: View>(
     requires short { length clause.now.vars ≤ 4 }
     requires partial { IsPartial universe.now.sizes (sorts_of_vars clause.now.vars) values at }
     ensures { MatchOption result
-        (PassFrom (λ v. instance_true spec.now.predicates (has (V.facts view.now)) v clause.now) universe.now.sizes (sorts_of_vars clause.now.vars) values at)
-        (IsFirstFrom (λ v. instance_true spec.now.predicates (has (V.facts view.now)) v clause.now) universe.now.sizes (sorts_of_vars clause.now.vars) values at) }
+        (PassFrom (λ v. instance_true spec.now (has (V.facts view.now)) v clause.now) universe.now.sizes (sorts_of_vars clause.now.vars) values at)
+        (IsFirstFrom (λ v. instance_true spec.now (has (V.facts view.now)) v clause.now) universe.now.sizes (sorts_of_vars clause.now.vars) values at) }
 {
     let Some(variable) = clause.vars.get(at as usize) else {
         return if holds_instance(spec, view, clause, &values) {

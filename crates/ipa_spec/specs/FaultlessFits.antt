@@ -9,15 +9,16 @@
 --   SpecificationParts s   no part has a fault of any kind, and no two parts of a kind have one name
 --   parts_of-faultless     so it is in a faultless specification
 --   IsFit-from_faultless   it is fit
-use Rattle.std.proofs.Common.{◌≡◌, ℕ, ◌<◌, ◌≤◌, Bool, true, false, ◌||◌, cond, leb, List, [], ◌∷◌, length, map, take, Option, Some, None, refl, sym, ap, ◌∙◌, subst, arith, zero, suc}
+use Rattle.std.proofs.Common.{◌≡◌, ℕ, ◌<◌, ◌≤◌, Bool, true, false, ◌||◌, cond, leb, List, [], ◌∷◌, length, map, filter, take, Option, Some, None, refl, sym, ap, ◌∙◌, subst, arith, zero, suc}
 use Rattle.std.specs.List.{list_any, slice_get, slice_index}
 use Rattle.std.specs.Option.{option_map, option_map_or}
 use Rattle.std.proofs.lemmas.Bool.{or_parts, ltb-false, leb-false}
 use Rattle.std.proofs.lemmas.Option.{slice_get-map, same_Some, get_or_from_slice_get, slice_get_within}
 use Rattle.std.proofs.lemmas.List.{length-map, length-take}
 use Rattle.ipa_spec.specs.Actions.{effects_of, needs_of, sorts_of, sorts_of_vars, place_sorts, drop_effect}
-use Rattle.ipa_spec.specs.Faults.{has_repeat, specification_has, names_have, predicate_has, clause_has, operation_has, bound_has, variables_have, literal_has, effect_has, bound_places_have, bound_adds, undeclared_has}
-use Rattle.ipa_spec.specs.Limits.{fault_of, first_limit, first_there, fault_if, above, faults_found, limits_passed, IsFaultless}
+use Rattle.ipa_spec.specs.Faults.{has_repeat, specification_has, names_have, constant_has, predicate_has, clause_has, operation_has, bound_has, variables_have, literal_has, effect_has, bound_places_have, bound_adds, undeclared_has}
+use Rattle.ipa_spec.specs.Limits.{fault_of, first_limit, first_there, fault_if, above, is_youngest, picks_youngest, youngest_count, faults_found, limits_passed, IsFaultless}
+use Rattle.ipa_spec.specs.Constants.{sort_of_constant, constants_of, constant_count}
 use Rattle.ipa_spec.specs.Fits.{LiteralFits, EffectFits, IsFit}
 use Rattle.ipa_spec.specs.declared.faults.FaultKind.{FaultKind}
 use Rattle.ipa_spec.specs.declared.faults.FaultKind.TheVariants as kind
@@ -26,6 +27,7 @@ use Rattle.ipa_spec.specs.PartsFit.{AritiesFit, literal_fits, effect_fits, drop_
 use Rattle.ipa_spec.specs.declared.faults.SpecFault.{SpecFault}
 use Rattle.ipa_spec.specs.declared.faults.SpecFault.TheVariants as fault
 use Rattle.ipa_spec.specs.declared.specification.Specification.{Specification}
+use Rattle.ipa_spec.specs.declared.constants.Constant.{Constant}
 use Rattle.ipa_spec.specs.declared.predicates.Predicate.{Predicate}
 use Rattle.ipa_spec.specs.declared.predicates.Var.{Var}
 use Rattle.ipa_spec.specs.declared.clauses.Clause.{Clause}
@@ -35,6 +37,8 @@ use Rattle.ipa_spec.specs.declared.operations.Operation.{Operation}
 use Rattle.ipa_spec.specs.declared.operations.Action.{Action}
 use Rattle.ipa_spec.specs.declared.operations.Action.TheVariants.{Op, Drop}
 use Rattle.ipa_spec.specs.declared.bounds.Bound.{Bound}
+use Rattle.ipa_spec.specs.declared.bounds.Pick.{Pick}
+use Rattle.ipa_spec.specs.declared.bounds.Pick.TheVariants.{Greatest, Youngest}
 
 -- where the first of a list is not there, none of them is
 pub none_there : (options : List (Option SpecFault)) → first_there options ≡ None →
@@ -115,23 +119,23 @@ sorts_declared s vars h k sort e =
 record OperationParts (s : Specification) (o : Operation) : Type 0 where
   params : (k : FaultKind) → variables_have k s o.params ≡ false
   needs : (k : FaultKind) →
-      list_any (literal_has k s.predicates (sorts_of_vars o.params)) o.needs ≡ false
+      list_any (literal_has k s (sorts_of_vars o.params)) o.needs ≡ false
   effects : (k : FaultKind) →
-      list_any (effect_has k s.predicates (sorts_of_vars o.params)) o.effects ≡ false
+      list_any (effect_has k s (sorts_of_vars o.params)) o.effects ≡ false
 
 operation_parts : (s : Specification) (o : Operation) →
     ((k : FaultKind) → operation_has k s o ≡ false) → OperationParts s o
 operation_parts s o h = record {
   params =
-      λ k. (or_parts _ (list_any (literal_has k s.predicates (sorts_of_vars o.params)) o.needs)
-      (or_parts _ (list_any (effect_has k s.predicates (sorts_of_vars o.params)) o.effects)
+      λ k. (or_parts _ (list_any (literal_has k s (sorts_of_vars o.params)) o.needs)
+      (or_parts _ (list_any (effect_has k s (sorts_of_vars o.params)) o.effects)
       (h k)).0).0;
   needs = λ k.
-      (or_parts _ (list_any (literal_has k s.predicates (sorts_of_vars o.params)) o.needs)
-      (or_parts _ (list_any (effect_has k s.predicates (sorts_of_vars o.params)) o.effects)
+      (or_parts _ (list_any (literal_has k s (sorts_of_vars o.params)) o.needs)
+      (or_parts _ (list_any (effect_has k s (sorts_of_vars o.params)) o.effects)
       (h k)).0).1;
   effects =
-      λ k. (or_parts _ (list_any (effect_has k s.predicates (sorts_of_vars o.params)) o.effects)
+      λ k. (or_parts _ (list_any (effect_has k s (sorts_of_vars o.params)) o.effects)
       (h k)).1;
 }
 
@@ -142,7 +146,7 @@ record BoundParts (s : Specification) (b : Bound) : Type 0 where
       (undeclared_has k) ≡ false
   adds : (k : FaultKind) → bound_adds k b ≡ false
   removes : (k : FaultKind) →
-      list_any (effect_has k s.predicates (place_sorts s.predicates b.predicate)) b.removes ≡ false
+      list_any (effect_has k s (place_sorts s.predicates b.predicate)) b.removes ≡ false
 
 bound_parts : (s : Specification) (b : Bound) → ((k : FaultKind) → bound_has k s b ≡ false) →
     BoundParts s b
@@ -150,26 +154,29 @@ bound_parts s b h = record {
   places =
       λ k. (or_parts _ (bound_adds k b)
       (or_parts _
-      (list_any (effect_has k s.predicates (place_sorts s.predicates b.predicate)) b.removes)
+      (list_any (effect_has k s (place_sorts s.predicates b.predicate)) b.removes)
       (h k)).0).0;
   adds = λ k.
       (or_parts _ (bound_adds k b)
       (or_parts _
-      (list_any (effect_has k s.predicates (place_sorts s.predicates b.predicate)) b.removes)
+      (list_any (effect_has k s (place_sorts s.predicates b.predicate)) b.removes)
       (h k)).0).1;
   removes =
       λ k. (or_parts _
-      (list_any (effect_has k s.predicates (place_sorts s.predicates b.predicate)) b.removes)
+      (list_any (effect_has k s (place_sorts s.predicates b.predicate)) b.removes)
       (h k)).1;
 }
 
 -- the parts of a specification have no fault where it has none, and no two of a kind have one name
 pub record SpecificationParts (s : Specification) : Type 0 where
   pub sort_names : has_repeat (λ name. name) s.sorts ≡ false
+  pub constant_names : has_repeat (λ c. c.name) s.constants ≡ false
   pub predicate_names : has_repeat (λ p. p.name) s.predicates ≡ false
   pub clause_names : has_repeat (λ c. c.name) s.clauses ≡ false
   pub operation_names : has_repeat (λ o. o.name) s.operations ≡ false
   pub bound_names : has_repeat (λ b. b.name) s.bounds ≡ false
+  pub constants : (n : ℕ) (c : Constant) → slice_get s.constants n ≡ Some c → (k : FaultKind) →
+      constant_has k s c ≡ false
   pub predicates : (n : ℕ) (p : Predicate) → slice_get s.predicates n ≡ Some p → (k : FaultKind) →
       predicate_has k s p ≡ false
   pub clauses : (n : ℕ) (c : Clause) → slice_get s.clauses n ≡ Some c → (k : FaultKind) →
@@ -183,43 +190,55 @@ specification_parts : (s : Specification) → ((k : FaultKind) → specification
     SpecificationParts s
 unfolding specification_has
 specification_parts s h =
+    let split5 =
+    λ (k : FaultKind). or_parts
+    ((((names_have k s || list_any (constant_has k s) s.constants) || list_any (predicate_has k s)
+    s.predicates) || list_any (clause_has k s) s.clauses) || list_any (operation_has k s)
+    s.operations) (list_any (bound_has k s) s.bounds) (h k) in
     let split4 =
     λ (k : FaultKind). or_parts
-    (((names_have k s || list_any (predicate_has k s) s.predicates) || list_any (clause_has k s)
-    s.clauses) || list_any (operation_has k s) s.operations) (list_any (bound_has k s) s.bounds)
-    (h k) in
+    (((names_have k s || list_any (constant_has k s) s.constants) || list_any (predicate_has k s)
+    s.predicates) || list_any (clause_has k s) s.clauses) (list_any (operation_has k s)
+    s.operations) (split5 k).0 in
     let split3 =
     λ (k : FaultKind). or_parts
-    ((names_have k s || list_any (predicate_has k s) s.predicates) || list_any (clause_has k s)
-    s.clauses) (list_any (operation_has k s) s.operations) (split4 k).0 in
+    ((names_have k s || list_any (constant_has k s) s.constants) || list_any (predicate_has k s)
+    s.predicates) (list_any (clause_has k s) s.clauses) (split4 k).0 in
     let split2 =
-    λ (k : FaultKind). or_parts (names_have k s || list_any (predicate_has k s) s.predicates)
-    (list_any (clause_has k s) s.clauses) (split3 k).0 in
+    λ (k : FaultKind). or_parts (names_have k s || list_any (constant_has k s) s.constants)
+    (list_any (predicate_has k s) s.predicates) (split3 k).0 in
     let split1 =
-    λ (k : FaultKind). or_parts (names_have k s) (list_any (predicate_has k s) s.predicates)
+    λ (k : FaultKind). or_parts (names_have k s) (list_any (constant_has k s) s.constants)
     (split2 k).0 in
+    let names5 =
+    or_parts ((((has_repeat (λ name. name) s.sorts || has_repeat (λ c. c.name) s.constants)
+    || has_repeat (λ p. p.name) s.predicates) || has_repeat (λ c. c.name) s.clauses)
+    || has_repeat (λ o. o.name) s.operations) (has_repeat (λ b. b.name) s.bounds)
+    (split1 kind.Duplicate).0 in
     let names4 =
-    or_parts (((has_repeat (λ name. name) s.sorts || has_repeat (λ p. p.name) s.predicates)
-    || has_repeat (λ c. c.name) s.clauses) || has_repeat (λ o. o.name) s.operations)
-    (has_repeat (λ b. b.name) s.bounds) (split1 kind.Duplicate).0 in
+    or_parts (((has_repeat (λ name. name) s.sorts || has_repeat (λ c. c.name) s.constants)
+    || has_repeat (λ p. p.name) s.predicates) || has_repeat (λ c. c.name) s.clauses)
+    (has_repeat (λ o. o.name) s.operations) names5.0 in
     let names3 =
-    or_parts ((has_repeat (λ name. name) s.sorts || has_repeat (λ p. p.name) s.predicates)
-    || has_repeat (λ c. c.name) s.clauses) (has_repeat (λ o. o.name) s.operations) names4.0 in
+    or_parts ((has_repeat (λ name. name) s.sorts || has_repeat (λ c. c.name) s.constants)
+    || has_repeat (λ p. p.name) s.predicates) (has_repeat (λ c. c.name) s.clauses) names4.0 in
     let names2 =
-    or_parts (has_repeat (λ name. name) s.sorts || has_repeat (λ p. p.name) s.predicates)
-    (has_repeat (λ c. c.name) s.clauses) names3.0 in
+    or_parts (has_repeat (λ name. name) s.sorts || has_repeat (λ c. c.name) s.constants)
+    (has_repeat (λ p. p.name) s.predicates) names3.0 in
     let names1 =
-    or_parts (has_repeat (λ name. name) s.sorts) (has_repeat (λ p. p.name) s.predicates) names2.0 in
+    or_parts (has_repeat (λ name. name) s.sorts) (has_repeat (λ c. c.name) s.constants) names2.0 in
     record {
       sort_names = names1.0;
-      predicate_names = names1.1;
-      clause_names = names2.1;
-      operation_names = names3.1;
-      bound_names = names4.1;
-      predicates = λ n p e k. list_any-false (predicate_has k s) s.predicates (split1 k).1 n p e;
-      clauses = λ n c e k. list_any-false (clause_has k s) s.clauses (split2 k).1 n c e;
-      operations = λ n o e k. list_any-false (operation_has k s) s.operations (split3 k).1 n o e;
-      bounds = λ n b e k. list_any-false (bound_has k s) s.bounds (split4 k).1 n b e;
+      constant_names = names1.1;
+      predicate_names = names2.1;
+      clause_names = names3.1;
+      operation_names = names4.1;
+      bound_names = names5.1;
+      constants = λ n c e k. list_any-false (constant_has k s) s.constants (split1 k).1 n c e;
+      predicates = λ n p e k. list_any-false (predicate_has k s) s.predicates (split2 k).1 n p e;
+      clauses = λ n c e k. list_any-false (clause_has k s) s.clauses (split3 k).1 n c e;
+      operations = λ n o e k. list_any-false (operation_has k s) s.operations (split4 k).1 n o e;
+      bounds = λ n b e k. list_any-false (bound_has k s) s.bounds (split5 k).1 n b e;
     }
 
 -- no part of a faultless specification has a fault, and no two of a kind have one name
@@ -291,16 +310,16 @@ argument_sort_fits s h parts (Drop n) k sort =
 needs_at : (s : Specification) (found : Option Operation) → AritiesFit s.predicates →
     ((o : Operation) → found ≡ Some o → OperationParts s o) → (k : ℕ) (l : Literal) →
     slice_get (option_map_or (λ o. o.needs) found []) k ≡ Some l →
-    LiteralFits s.predicates (option_map_or (λ o. sorts_of_vars o.params) found []) l
+    LiteralFits s (option_map_or (λ o. sorts_of_vars o.params) found []) l
 needs_at s None short parts k l e = cc
 needs_at s (Some o) short parts k l e =
-    literal_fits s.predicates (sorts_of_vars o.params) l short
-    (λ f. list_any-false (literal_has f s.predicates (sorts_of_vars o.params)) o.needs
+    literal_fits s (sorts_of_vars o.params) l short
+    (λ f. list_any-false (literal_has f s (sorts_of_vars o.params)) o.needs
     ((parts o refl).needs f) k l e)
 
 needs_fit : (s : Specification) → IsFaultless s → SpecificationParts s →
     (action : Action) (k : ℕ) (l : Literal) → slice_get (needs_of s action) k ≡ Some l →
-    LiteralFits s.predicates (sorts_of s action) l
+    LiteralFits s (sorts_of s action) l
 needs_fit s h parts (Op n) k l e =
     needs_at s (slice_get s.operations n) (arities_fit s h)
     (λ o f. operation_parts s o (parts.operations n o f)) k l e
@@ -310,46 +329,88 @@ needs_fit s h parts (Drop n) k l e = cc
 operation_effects_at : (s : Specification) (found : Option Operation) → AritiesFit s.predicates →
     ((o : Operation) → found ≡ Some o → OperationParts s o) → (k : ℕ) (e : Effect) →
     slice_get (option_map_or (λ o. o.effects) found []) k ≡ Some e →
-    EffectFits s.predicates (option_map_or (λ o. sorts_of_vars o.params) found []) e
+    EffectFits s (option_map_or (λ o. sorts_of_vars o.params) found []) e
 operation_effects_at s None short parts k l e = cc
 operation_effects_at s (Some o) short parts k e is =
-    effect_fits s.predicates (sorts_of_vars o.params) e short
-    (λ f. list_any-false (effect_has f s.predicates (sorts_of_vars o.params)) o.effects
+    effect_fits s (sorts_of_vars o.params) e short
+    (λ f. list_any-false (effect_has f s (sorts_of_vars o.params)) o.effects
     ((parts o refl).effects f) k e is)
 
 -- the effects of a drop fit its fact
 drop_effects_at : (s : Specification) (b : Bound) → AritiesFit s.predicates → SpecificationParts s →
     BoundParts s b → (k : ℕ) (e : Effect) →
     slice_get (drop_effect s.predicates b ∷ b.removes) k ≡ Some e →
-    EffectFits s.predicates (place_sorts s.predicates b.predicate) e
+    EffectFits s (place_sorts s.predicates b.predicate) e
 drop_effects_at s b short parts of zero e is =
     let fits = bound_fits s b of in
     let p = fits.predicate in
-    subst (λ e. EffectFits s.predicates (place_sorts s.predicates b.predicate) e) (same_Some _ _ is)
+    subst (λ e. EffectFits s (place_sorts s.predicates b.predicate) e) (same_Some _ _ is)
     (drop_effect_fits s b p fits.declared (short _ p fits.declared)
     (parts.predicates _ p fits.declared))
 drop_effects_at s b short parts of (suc k) e is =
-    effect_fits s.predicates (place_sorts s.predicates b.predicate) e short
-    (λ f. list_any-false (effect_has f s.predicates (place_sorts s.predicates b.predicate))
+    effect_fits s (place_sorts s.predicates b.predicate) e short
+    (λ f. list_any-false (effect_has f s (place_sorts s.predicates b.predicate))
     b.removes (of.removes f) k e is)
 
 bound_effects_at : (s : Specification) (found : Option Bound) → AritiesFit s.predicates →
     SpecificationParts s → ((b : Bound) → found ≡ Some b → BoundParts s b) → (k : ℕ) (e : Effect) →
     slice_get (option_map_or (λ b. drop_effect s.predicates b ∷ b.removes) found []) k ≡ Some e →
-    EffectFits s.predicates (option_map_or (λ b. place_sorts s.predicates b.predicate) found []) e
+    EffectFits s (option_map_or (λ b. place_sorts s.predicates b.predicate) found []) e
 bound_effects_at s None short parts of k e is = cc
 bound_effects_at s (Some b) short parts of k e is =
     drop_effects_at s b short parts (of b refl) k e is
 
 effects_fit : (s : Specification) → IsFaultless s → SpecificationParts s →
     (action : Action) (k : ℕ) (e : Effect) → slice_get (effects_of s action) k ≡ Some e →
-    EffectFits s.predicates (sorts_of s action) e
+    EffectFits s (sorts_of s action) e
 effects_fit s h parts (Op n) k e is =
     operation_effects_at s (slice_get s.operations n) (arities_fit s h)
     (λ o f. operation_parts s o (parts.operations n o f)) k e is
 effects_fit s h parts (Drop n) k e is =
     bound_effects_at s (slice_get s.bounds n) (arities_fit s h) parts
     (λ b f. bound_parts s b (parts.bounds n b f)) k e is
+
+-- a list of no length has no items
+no_items : {X : Type 0} (xs : List X) → length xs ≤ 0 → xs ≡ []
+no_items [] h = refl
+no_items (x ∷ xs) h = absurd (omega arith)
+
+-- no constant is declared
+no_constants : (s : Specification) → IsFaultless s → s.constants ≡ []
+no_constants s h =
+    no_items s.constants
+    (above-None 19 0 (length s.constants ∷ youngest_count s.bounds ∷ [])
+    (limits_of-faultless s h 13 _ refl) 0 _ refl)
+
+-- where the rest of the items do not pass, and the first does not, none does
+none_filtered_at : {X : Type 0} (test : X → Bool) (y : X) (ys : List X) (b : Bool) → test y ≡ b →
+    length (cond b (y ∷ filter test ys) (filter test ys)) ≤ 0 →
+    (length (filter test ys) ≤ 0 → (n : ℕ) (x : X) → slice_get ys n ≡ Some x → test x ≡ false) →
+    (n : ℕ) (x : X) → slice_get (y ∷ ys) n ≡ Some x → test x ≡ false
+none_filtered_at test y ys true is h rest n x e = absurd (omega arith)
+none_filtered_at test y ys false is h rest zero x e = subst (λ z. test z ≡ false) (same_Some _ _ e) is
+none_filtered_at test y ys false is h rest (suc n) x e = rest h n x e
+
+-- where no item is left by a test, none passes it
+none_filtered : {X : Type 0} (test : X → Bool) (xs : List X) → length (filter test xs) ≤ 0 → (n : ℕ)
+    (x : X) → slice_get xs n ≡ Some x → test x ≡ false
+none_filtered test [] h n x e = cc
+none_filtered test (y ∷ ys) h n x e =
+    none_filtered_at test y ys (test y) refl h (none_filtered test ys) n x e
+
+-- a pick that is not the youngest is the greatest
+greatest_pick : (p : Pick) → is_youngest p ≡ false → p ≡ Greatest
+greatest_pick Greatest h = refl
+greatest_pick Youngest h = cc
+
+-- each bound picks the greatest fact
+picks_greatest : (s : Specification) → IsFaultless s → (n : ℕ) (b : Bound) →
+    slice_get s.bounds n ≡ Some b → b.pick ≡ Greatest
+picks_greatest s h n b e =
+    greatest_pick b.pick
+    (none_filtered picks_youngest s.bounds
+    (above-None 19 0 (length s.constants ∷ youngest_count s.bounds ∷ [])
+    (limits_of-faultless s h 13 _ refl) 1 _ refl) n b e)
 
 -- a faultless specification is fit
 pub IsFit-from_faultless : (s : Specification) → IsFaultless s → IsFit s
@@ -366,6 +427,15 @@ IsFit-from_faultless s h =
           above-None 7 32 (length s.operations ∷ []) (limits_of-faultless s h 6 _ refl) 0 _ refl;
       bound_count =
           above-None 11 8 (length s.bounds ∷ []) (limits_of-faultless s h 10 _ refl) 0 _ refl;
+      constant_sort = λ k sort e.
+          let nothing : s.constants ≡ [] = no_constants s h in
+          let at : sort_of_constant s k ≡ None = ap (λ cs. option_map (λ c. c.sort) (slice_get cs k)) nothing in
+          cc;
+      constant_most = λ sort.
+          let nothing : s.constants ≡ [] = no_constants s h in
+          let none : constant_count s sort ≡ 0 = ap (λ cs. length (constants_of cs sort)) nothing in
+          omega arith;
+      no_constants = no_constants s h;
       arities = short;
       place_sort = λ n k p e l.
           let known = place_sort_declared s p (short n p e) (parts.predicates n p e) k l in
@@ -381,17 +451,27 @@ IsFit-from_faultless s h =
       variable_sort =
           λ n k sort c e. sorts_declared s c.vars
           (λ f. (or_parts _
-          (list_any (literal_has f s.predicates (sorts_of_vars c.vars)) c.literals)
+          (list_any (literal_has f s (sorts_of_vars c.vars)) c.literals)
           (parts.clauses n c e f)).0) k sort;
       literals =
-          λ n k c l e is. literal_fits s.predicates (sorts_of_vars c.vars) l short
-          (λ f. list_any-false (literal_has f s.predicates (sorts_of_vars c.vars)) c.literals
-          (or_parts _ (list_any (literal_has f s.predicates (sorts_of_vars c.vars)) c.literals)
+          λ n k c l e is. literal_fits s (sorts_of_vars c.vars) l short
+          (λ f. list_any-false (literal_has f s (sorts_of_vars c.vars)) c.literals
+          (or_parts _ (list_any (literal_has f s (sorts_of_vars c.vars)) c.literals)
           (parts.clauses n c e f)).1 k l is);
       argument_count = argument_count_fits s h;
       argument_sort = argument_sort_fits s h parts;
       needs = needs_fit s h parts;
       effects = effects_fit s h parts;
+      need_count =
+          λ n o e. above-map 10 6 (λ o. length o.needs) s.operations
+          (limits_of-faultless s h 9 _ refl) n o e;
+      effect_count =
+          λ n o e. above-map 9 12 (λ o. length o.effects) s.operations
+          (limits_of-faultless s h 8 _ refl) n o e;
+      remove_count =
+          λ n b e. above-map 13 4 (λ b. length b.removes) s.bounds
+          (limits_of-faultless s h 12 _ refl) n b e;
+      greatest = λ n b e. picks_greatest s h n b e;
       bound_predicate =
           λ n b e. slice_get_within s.predicates b.predicate _
           (bound_fits s b (bound_parts s b (parts.bounds n b e))).declared;

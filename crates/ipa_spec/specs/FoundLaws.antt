@@ -2,15 +2,17 @@
 --
 --   list_any-false   none of the items passes the test
 --   none_of          where none does, no item passes it
+--   Found, found_at  where one does, it stands at a place
+--   any_at           an item that passes is found
 --   map_at           what is mapped at a place
 --   take_at, at_take what stands at a place among the first
 --   declared         what is found, where it must be
 --   said_of          what is said of it
 --   found_or         what holds of what is found, and of what stands in its place
-use Rattle.std.proofs.Common.{◌≡◌, ℕ, ◌<◌, Bool, true, false, List, [], ◌∷◌, map, take, Option, Some, None, refl, subst, arith, zero, suc}
+use Rattle.std.proofs.Common.{◌≡◌, ℕ, ◌<◌, Bool, true, false, ◌||◌, List, [], ◌∷◌, map, take, Option, Some, None, refl, sym, subst, arith, zero, suc}
 use Rattle.std.specs.List.{list_any, slice_get}
 use Rattle.std.specs.Option.{option_map_or}
-use Rattle.std.proofs.lemmas.Bool.{or_parts, or_from}
+use Rattle.std.proofs.lemmas.Bool.{or_parts, or_from, or_left, or_right}
 use Rattle.std.proofs.lemmas.Option.{same_Some}
 
 -- none of the items passes the test
@@ -28,6 +30,33 @@ pub none_of : {X : Type 0} (test : X → Bool) (xs : List X) →
 none_of test [] h = refl
 none_of test (x ∷ xs) h =
     or_from (test x) (list_any test xs) (h 0 x refl) (none_of test xs (λ n y e. h (suc n) y e))
+
+-- an item that passes the test, at its place
+pub record Found {X : Type 0} (test : X → Bool) (xs : List X) : Type 0 where
+  pub item : X
+  pub place : ℕ
+  pub at : slice_get xs place ≡ Some item
+  pub passes : test item ≡ true
+
+-- the first passes, or one of the rest
+found_first : {X : Type 0} (test : X → Bool) (x : X) (xs : List X) (b : Bool) → test x ≡ b → (b || list_any test xs) ≡ true →
+    (list_any test xs ≡ true → Found test xs) → Found test (x ∷ xs)
+found_first test x xs true is h rest = record { item = x; place = 0; at = refl; passes = is }
+found_first test x xs false is h rest =
+    let later = rest h in
+    record { item = later.item; place = suc later.place; at = later.at; passes = later.passes }
+
+-- where one of the items passes the test, it stands at a place
+pub found_at : {X : Type 0} (test : X → Bool) (xs : List X) → list_any test xs ≡ true → Found test xs
+found_at test [] h = cc
+found_at test (x ∷ xs) h = found_first test x xs (test x) refl h (found_at test xs)
+
+-- an item that passes is found
+pub any_at : {X : Type 0} (test : X → Bool) (xs : List X) (n : ℕ) (x : X) → slice_get xs n ≡ Some x → test x ≡ true →
+    list_any test xs ≡ true
+any_at test [] n x e h = cc
+any_at test (y ∷ ys) zero x e h = or_left (test y) (list_any test ys) (subst (λ z. test z ≡ true) (sym (same_Some _ _ e)) h)
+any_at test (y ∷ ys) (suc n) x e h = or_right (test y) (list_any test ys) (any_at test ys n x e h)
 
 -- what is mapped at a place
 pub map_at : {X Y : Type 0} (of : X → Y) (xs : List X) (k : ℕ) (y : Y) →

@@ -1,11 +1,13 @@
 pub mod Names
 pub mod Parts
 pub mod Actions
+pub mod Constants
 pub mod Faults
 pub mod Limits
 pub mod Variables
 pub mod Fits
 pub mod FoundLaws
 pub mod NameLaws
+pub mod ConstantLaws
 pub mod PartsFit
 pub mod FaultlessFits

@@ -3,6 +3,15 @@ use crate::lists::List;
 use crate::names::Name;
 use crate::operations::Effect;
 
+/// Which fact of a group that is over its bound a drop removes.
+#[derive(Clone, Copy, Debug, PartialEq, Eq)]
+pub enum Pick {
+    /// The greatest fact.
+    Greatest,
+    /// The fact that was added last, by the ages of facts, and of several the greatest one.
+    Youngest,
+}
+
 /// A bound: of the facts of a predicate that agree in all places but the counted one,
 /// at most `most` are to be true.
 #[derive(Clone, Debug, Drop)]
@@ -19,4 +28,6 @@ pub struct Bound {
     pub most: u16,
     /// What a drop removes beside its fact, at most 4 effects over the variables.
     pub removes: List<Effect>,
+    /// Which fact of a group that is over the bound a drop removes.
+    pub pick: Pick,
 }

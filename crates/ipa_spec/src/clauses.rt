@@ -1,15 +1,16 @@
 //! Clauses: disjunctions of literals, which hold for all values of their variables.
+use crate::constants::Term;
 use crate::lists::List;
 use crate::names::Name;
 use crate::predicates::Var;
 
-/// A predicate with variables in its places.
+/// A predicate with variables and constants in its places.
 #[derive(Clone, Copy, Debug, PartialEq, Eq)]
 pub struct Atom {
     /// The number of the predicate.
     pub predicate: u8,
-    /// The number of the variable in each place, and 0 past the predicate's arity.
-    pub args: [u8; 3],
+    /// What stands in each place, and `Term::Var(0)` past the predicate's arity.
+    pub args: [Term; 3],
 }
 
 /// A condition on the values of variables and on the facts of a state.
@@ -19,10 +20,10 @@ pub enum Literal {
     Holds(Atom),
     /// The fact is false.
     Fails(Atom),
-    /// The two variables have the same value.
-    Same(u8, u8),
-    /// The two variables have different values.
-    Differ(u8, u8),
+    /// The two terms stand for the same element.
+    Same(Term, Term),
+    /// The two terms stand for different elements.
+    Differ(Term, Term),
 }
 
 /// A clause: for all values of its variables one of its literals is true.

@@ -5,6 +5,7 @@ ghost use Rattle.ipa_spec.specs.Limits.{fault_of, IsFaultless};
 
 use crate::bounds::Bound;
 use crate::clauses::Clause;
+use crate::constants::Constant;
 use crate::faults::SpecFault;
 use crate::faults::limits::fault_of;
 use crate::lists::List;
@@ -37,20 +38,22 @@ impl Spec {
     /// a refused specification are given up.
     pub fn new(
         sorts: List<Name>,
+        constants: List<Constant>,
         predicates: List<Predicate>,
         clauses: List<Clause>,
         operations: List<Operation>,
         bounds: List<Bound>,
     ) -> Result<Spec, SpecFault>
         ensures ok { IfOk result
-            (λ spec. spec ≡ specification_of sorts predicates clauses operations bounds) }
+            (λ spec. spec ≡ specification_of sorts constants predicates clauses operations bounds) }
         ensures faultless { IfOk result
-            (λ _. fault_of (specification_of sorts predicates clauses operations bounds) ≡ None) }
+            (λ _. fault_of (specification_of sorts constants predicates clauses operations bounds) ≡ None) }
         ensures refused { IfErr result (λ fault.
-            fault_of (specification_of sorts predicates clauses operations bounds) ≡ Some fault) }
+            fault_of (specification_of sorts constants predicates clauses operations bounds) ≡ Some fault) }
     {
         let parts = Specification {
             sorts,
+            constants,
             predicates,
             clauses,
             operations,
@@ -62,11 +65,26 @@ impl Spec {
         }
     }
 
+    // The parts, which have no fault by the type.
+    pub(crate) fn faultless_parts(&self) -> &Specification
+        ensures value { result.now ≡ self.now }
+        ensures faultless { IsFaultless self.now }
+    {
+        &self.parts
+    }
+
     /// The sorts of elements.
     pub fn sorts(&self) -> &List<Name>
         ensures { result.now ≡ self.now.sorts }
     {
         &self.parts.sorts
+    }
+
+    /// The constants, in declared order over all sorts.
+    pub fn constants(&self) -> &List<Constant>
+        ensures { result.now ≡ self.now.constants }
+    {
+        &self.parts.constants
     }
 
     /// The predicates.
@@ -78,8 +96,7 @@ impl Spec {
 
     /// The clauses, which are to hold in every state.
     pub fn clauses(&self) -> &List<Clause>
-        ensures value { result.now ≡ self.now.clauses }
-        ensures faultless { IsFaultless self.now }
+        ensures { result.now ≡ self.now.clauses }
     {
         &self.parts.clauses
     }

@@ -1,7 +1,7 @@
 #![tactic(auto)]
 //! The specification of a replicated application, and the test that it has no fault.
 //!
-//! An application declares the sorts of its elements, predicates over them, clauses that are to
+//! An application declares the sorts of its elements, constants of them, predicates over them, clauses that are to
 //! hold in every state, the operations that replicas accept, and bounds on the sizes of groups of
 //! facts. A `Name` names a part. A `List` holds parts in declared order, and contracts see it as
 //! the list of its items; the number of a part is its place there, from 0. An `Action` is what a
@@ -14,27 +14,27 @@
 //! ```
 //! let mut sorts = List::new(alloc);
 //! sorts.push(Name::new(b"cup").ok_or("no name")?)?;
-//! let spec = Spec::new(sorts, predicates, clauses, operations, bounds)?;
+//! let spec = Spec::new(sorts, constants, predicates, clauses, operations, bounds)?;
 //! ```
 
 mod bounds;
 mod clauses;
+mod constants;
 mod faultless;
 mod faults;
+pub mod laws;
 mod lists;
 mod names;
 mod operations;
 mod predicates;
 mod specification;
 
-pub use bounds::Bound;
+pub use bounds::{Bound, Pick};
 pub use clauses::{Atom, Clause, Literal};
+pub use constants::{Constant, Term};
 pub use faultless::Spec;
 pub use faults::SpecFault;
 pub use lists::List;
 pub use names::Name;
 pub use operations::{Action, Arg, Effect, Operation};
 pub use predicates::{Predicate, Rule, Var};
-
-#[cfg(test)]
-mod tests;

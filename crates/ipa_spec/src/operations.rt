@@ -9,6 +9,8 @@ use crate::predicates::Var;
 pub enum Arg {
     /// The parameter of this number.
     Var(u8),
+    /// The constant of this number.
+    Const(u8),
     /// Every element: `*`.
     Any,
 }

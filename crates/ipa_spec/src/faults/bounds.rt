@@ -77,12 +77,7 @@ fn bound_has(kind: FaultKind, parts: &Specification, bound: &Bound) -> bool
     let predicate = parts.predicates.get(bound.predicate as usize);
     subject_has(kind, bound, predicate)
         || bound_adds(kind, bound)
-        || some_effect_has(
-            kind,
-            &parts.predicates,
-            &Variables::Places(predicate),
-            &bound.removes,
-        )
+        || some_effect_has(kind, parts, &Variables::Places(predicate), &bound.removes)
 }
 
 pub(super) fn some_bound_has(kind: FaultKind, parts: &Specification) -> bool

@@ -1,10 +1,11 @@
-//! Faults of predicates, lists of variables, clauses and operations.
+//! Faults of constants, predicates, lists of variables, clauses and operations.
 ghost use Rattle.std.specs.Prelude.{◌≡◌, ◌==◌, ◌&&◌, ℕ, true, not, nat_lt, nat_le, length, drop, slice_get};
 ghost use Rattle.std.specs.List.{list_any};
 ghost use Rattle.std.specs.Option.{option_map_or};
-ghost use Rattle.ipa_spec.specs.Faults.{place_without_sort, predicate_has, variables_have, clause_has, operation_has};
+ghost use Rattle.ipa_spec.specs.Faults.{place_without_sort, constant_has, predicate_has, variables_have, clause_has, operation_has};
 
 use crate::clauses::Clause;
+use crate::constants::Constant;
 use crate::faults::FaultKind;
 use crate::faults::literals::{some_effect_has, some_literal_has};
 use crate::faults::names::has_repeat;
@@ -40,6 +41,16 @@ fn is_no_sort(sorts: &List<Name>, sort: Option<u8>) -> bool
     match sort {
         Some(sort) => sorts.len() <= sort as usize,
         None => true,
+    }
+}
+
+// A declared constant.
+fn constant_has(kind: FaultKind, parts: &Specification, constant: &Constant) -> bool
+    ensures { result ≡ constant_has kind parts.now constant.now }
+{
+    match kind {
+        FaultKind::UnknownName => parts.sorts.len() <= constant.sort as usize,
+        _ => false,
     }
 }
 
@@ -84,7 +95,7 @@ fn clause_has(kind: FaultKind, parts: &Specification, clause: &Clause) -> bool
     variables_have(kind, parts, &clause.vars)
         || some_literal_has(
             kind,
-            &parts.predicates,
+            parts,
             &Variables::Listed(&clause.vars),
             &clause.literals,
         )
@@ -95,8 +106,18 @@ fn operation_has(kind: FaultKind, parts: &Specification, operation: &Operation) 
 {
     let variables = Variables::Listed(&operation.params);
     variables_have(kind, parts, &operation.params)
-        || some_literal_has(kind, &parts.predicates, &variables, &operation.needs)
-        || some_effect_has(kind, &parts.predicates, &variables, &operation.effects)
+        || some_literal_has(kind, parts, &variables, &operation.needs)
+        || some_effect_has(kind, parts, &variables, &operation.effects)
+}
+
+pub(super) fn some_constant_has(kind: FaultKind, parts: &Specification) -> bool
+    ensures { result ≡ list_any (constant_has kind parts.now) parts.now.constants }
+{
+    parts
+        .constants
+        .as_slice()
+        .iter()
+        .any(|constant| constant_has(kind, parts, constant))
 }
 
 pub(super) fn some_predicate_has(kind: FaultKind, parts: &Specification) -> bool

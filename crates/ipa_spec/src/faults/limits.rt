@@ -1,9 +1,9 @@
 //! The limits on counts and numbers, and the first fault.
 ghost use Rattle.std.specs.Prelude.{◌≡◌, ◌&&◌, [], ◌∷◌, not, nat_lt, nat_le, length, map, find};
 ghost use Rattle.std.specs.Option.{option_map};
-ghost use Rattle.ipa_spec.specs.Limits.{above, size_outside, first_there, first_limit, fault_if, fault_of};
+ghost use Rattle.ipa_spec.specs.Limits.{above, size_outside, picks_youngest, youngest_count, first_there, first_limit, fault_if, fault_of};
 
-use crate::bounds::Bound;
+use crate::bounds::{Bound, Pick};
 use crate::clauses::Clause;
 use crate::faults::kinds::specification_has;
 use crate::faults::{FaultKind, SpecFault};
@@ -122,6 +122,40 @@ fn first_size_outside(bounds: &List<Bound>) -> Option<usize>
         .find(|size| !(1 <= *size && *size <= 65535))
 }
 
+// Whether the bound picks the youngest fact.
+fn picks_youngest(bound: &Bound) -> bool
+    ensures { result ≡ picks_youngest bound.now }
+{
+    match bound.pick {
+        Pick::Greatest => false,
+        Pick::Youngest => true,
+    }
+}
+
+// How many bounds pick the youngest fact.
+fn youngest_count(bounds: &List<Bound>) -> usize
+    ensures { result ≡ youngest_count bounds.now }
+{
+    bounds
+        .as_slice()
+        .iter()
+        .filter(|bound| picks_youngest(bound))
+        .count()
+}
+
+// What no document can say yet: a constant, or a bound that picks the youngest fact.
+fn first_unread(parts: &Specification) -> Option<SpecFault>
+    ensures { result
+        ≡ above 19 0 (length parts.now.constants ∷ youngest_count parts.now.bounds ∷ []) }
+{
+    let constants = parts.constants.len();
+    let youngest = youngest_count(&parts.bounds);
+    if constants > 0 {
+        return passed(19, Some(constants));
+    }
+    count_above(19, 0, youngest)
+}
+
 // The first of the faults that is there.
 fn first_there(faults: &[Option<SpecFault>]) -> Option<SpecFault>
     ensures { result ≡ first_there faults.now }
@@ -153,6 +187,7 @@ fn first_limit(parts: &Specification) -> Option<SpecFault>
         count_above(11, 8, parts.bounds.len()),
         passed(12, first_size_outside(&parts.bounds)),
         passed(13, first_removes_above(&parts.bounds)),
+        first_unread(parts),
     ])
 }
 

@@ -10,7 +10,7 @@ use crate::faults::places::{atom_places_have, comparison_has, effect_places_have
 use crate::faults::variables::Variables;
 use crate::lists::List;
 use crate::operations::Effect;
-use crate::predicates::Predicate;
+use crate::specification::Specification;
 
 // A predicate number without a declaration.
 pub(super) fn undeclared_has(kind: FaultKind) -> bool
@@ -19,62 +19,60 @@ pub(super) fn undeclared_has(kind: FaultKind) -> bool
     kind == FaultKind::UnknownName
 }
 
-fn atom_has(
-    kind: FaultKind,
-    predicates: &List<Predicate>,
-    variables: &Variables,
-    atom: &Atom,
-) -> bool
-    ensures { result ≡ atom_has kind predicates.now (sorts_of_variables variables.now) atom.now }
+fn atom_has(kind: FaultKind, parts: &Specification, variables: &Variables, atom: &Atom) -> bool
+    ensures { result ≡ atom_has kind parts.now (sorts_of_variables variables.now) atom.now }
 {
-    match predicates.get(atom.predicate as usize) {
-        Some(predicate) => atom_places_have(kind, variables, predicate, &atom.args),
+    match parts.predicates.get(atom.predicate as usize) {
+        Some(predicate) => atom_places_have(kind, parts, variables, predicate, atom),
         None => undeclared_has(kind),
     }
 }
 
 fn literal_has(
     kind: FaultKind,
-    predicates: &List<Predicate>,
+    parts: &Specification,
     variables: &Variables,
     literal: &Literal,
 ) -> bool
     ensures { result
-        ≡ literal_has kind predicates.now (sorts_of_variables variables.now) literal.now }
+        ≡ literal_has kind parts.now (sorts_of_variables variables.now) literal.now }
 {
     match literal {
-        Literal::Holds(atom) => atom_has(kind, predicates, variables, atom),
-        Literal::Fails(atom) => atom_has(kind, predicates, variables, atom),
-        Literal::Same(one, other) => comparison_has(kind, variables, *one, *other),
-        Literal::Differ(one, other) => comparison_has(kind, variables, *one, *other),
+        Literal::Holds(atom) => atom_has(kind, parts, variables, atom),
+        Literal::Fails(atom) => atom_has(kind, parts, variables, atom),
+        Literal::Same(one, other) => comparison_has(kind, parts, variables, *one, *other),
+        Literal::Differ(one, other) => comparison_has(kind, parts, variables, *one, *other),
     }
 }
 
 // One of the literals of a clause, or of the needs of an operation.
 pub(super) fn some_literal_has(
     kind: FaultKind,
-    predicates: &List<Predicate>,
+    parts: &Specification,
     variables: &Variables,
     literals: &List<Literal>,
 ) -> bool
     ensures { result
-        ≡ list_any (literal_has kind predicates.now (sorts_of_variables variables.now))
+        ≡ list_any (literal_has kind parts.now (sorts_of_variables variables.now))
         literals.now }
 {
-    literals.as_slice().iter().any(|literal| literal_has(kind, predicates, variables, literal))
+    literals
+        .as_slice()
+        .iter()
+        .any(|literal| literal_has(kind, parts, variables, literal))
 }
 
 fn effect_has(
     kind: FaultKind,
-    predicates: &List<Predicate>,
+    parts: &Specification,
     variables: &Variables,
     effect: &Effect,
 ) -> bool
     ensures { result
-        ≡ effect_has kind predicates.now (sorts_of_variables variables.now) effect.now }
+        ≡ effect_has kind parts.now (sorts_of_variables variables.now) effect.now }
 {
-    match predicates.get(effect.predicate as usize) {
-        Some(predicate) => effect_places_have(kind, variables, predicate, effect),
+    match parts.predicates.get(effect.predicate as usize) {
+        Some(predicate) => effect_places_have(kind, parts, variables, predicate, effect),
         None => undeclared_has(kind),
     }
 }
@@ -82,15 +80,15 @@ fn effect_has(
 // One of the effects of an operation, or of the further removes of a bound.
 pub(super) fn some_effect_has(
     kind: FaultKind,
-    predicates: &List<Predicate>,
+    parts: &Specification,
     variables: &Variables,
     effects: &List<Effect>,
 ) -> bool
     ensures { result
-        ≡ list_any (effect_has kind predicates.now (sorts_of_variables variables.now)) effects.now }
+        ≡ list_any (effect_has kind parts.now (sorts_of_variables variables.now)) effects.now }
 {
     effects
         .as_slice()
         .iter()
-        .any(|effect| effect_has(kind, predicates, variables, effect))
+        .any(|effect| effect_has(kind, parts, variables, effect))
 }

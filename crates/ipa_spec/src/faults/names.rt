@@ -5,6 +5,7 @@ ghost use Rattle.ipa_spec.specs.Faults.{same_name, has_repeat};
 
 use crate::bounds::Bound;
 use crate::clauses::Clause;
+use crate::constants::Constant;
 use crate::names::Name;
 use crate::operations::Operation;
 use crate::predicates::{Predicate, Var};
@@ -24,6 +25,14 @@ impl Named for Name {
 
     fn name(&self) -> &Name {
         self
+    }
+}
+
+impl Named for Constant {
+    ghost name_of = { λ constant. constant.name };
+
+    fn name(&self) -> &Name {
+        &self.name
     }
 }
 

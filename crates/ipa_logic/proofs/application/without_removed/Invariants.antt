@@ -6,4 +6,4 @@ use Rattle.ipa_logic.specs.declared.facts.Fact.{Fact}
 use Rattle.ipa_logic.proofs.application.without_removed.Given as goal
 
 abbrev pub invariant-loop-fact : goal.invariant-loop-fact
-invariant-loop-fact l = (f : Fact) → has l.left f ≡ (has (map (λ x. x.now) l.yielded) f && not (some_takes (effects_of l.spec l.action) l.args f))
+invariant-loop-fact l = (f : Fact) → has l.left f ≡ (has (map (λ x. x.now) l.yielded) f && not (some_takes l.spec (effects_of l.spec l.action) l.args f))
