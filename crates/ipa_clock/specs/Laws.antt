@@ -5,13 +5,14 @@
 --     EmptyIsBelow             the empty cut is below each cut
 --     JoinedIsLeast            the joined cut is the least that both are below
 --     JoinedIsCommutative, JoinedIsAssociative, JoinedIsIdempotent   in what order cuts are joined makes no difference
+--     CoveredIsCovers          the test of what a cut covers passes just on that
 --     CoversFollowsBelow       what a cut covers, each cut above it covers
 --     CoversOfJoined           the joined cut covers what one of the two covers
 --     CoversOfRaised           the raised cut covers one transaction more
-use Rattle.std.specs.Prelude.{◌≡◌, ◌<◌, ◌+◌, ◌⊎◌, ◌↔◌, length}
+use Rattle.std.specs.Prelude.{◌≡◌, true, ◌<◌, ◌+◌, ◌⊎◌, ◌↔◌, length}
 use Rattle.ipa_clock.specs.declared.dot.Dot.{Dot}
 use Rattle.ipa_clock.specs.declared.cut.Cut.{Cut}
-use Rattle.ipa_clock.specs.Cut.{count_of, Covers, IsBelow, joined, raised, empty}
+use Rattle.ipa_clock.specs.Cut.{count_of, Covers, is_covered, IsBelow, joined, raised, empty}
 
 -- the cut has a count for each of the 16 origins
 abbrev pub HasAllOrigins : Cut → Type 0
@@ -54,6 +55,10 @@ JoinedIsAssociative = (first second third : Cut) → joined (joined first second
 -- a cut joined to itself stays as it is
 abbrev pub JoinedIsIdempotent : Type 0
 JoinedIsIdempotent = (only : Cut) → joined only only ≡ only
+
+-- the test of what a cut covers passes just on that
+abbrev pub CoveredIsCovers : Type 0
+CoveredIsCovers = (cut : Cut) (dot : Dot) → (is_covered cut dot ≡ true) ↔ Covers cut dot
 
 -- what a cut covers, each cut above it covers
 abbrev pub CoversFollowsBelow : Type 0

@@ -1,7 +1,7 @@
 -- Lemmas on cuts, and the proofs of their laws, for proofs in the crates above too.
 --     below_refl, below_trans, below_antisym, empty_below
 --     joined_least, joined_comm, joined_assoc, joined_same
---     covers_above, covers_joined, covers_raised
+--     covered_covers, covers_above, covers_joined, covers_raised
 --     slice_index-greater_counts, length-greater_counts      the greater counts, place by place
 --     count_of-joined                                        the counts of a joined cut
 --     count_of-raised_same, count_of-raised_other            the counts of a raised cut
@@ -9,11 +9,11 @@ use Rattle.std.specs.Prelude.{◌≡◌, ◌≢◌, ◌<◌, ℕ, List, [], ◌�
 use Rattle.std.proofs.Common.{suc, zero, ◌∙◌, ap, arith, inl, inr}
 use Rattle.std.proofs.lemmas.Grind.{same_number_lists, elements}
 use Rattle.std.proofs.lemmas.List.{get_or-set_same, get_or-set_other}
-use Rattle.std.proofs.lemmas.Bool.{cases_lt, cases_eq}
+use Rattle.std.proofs.lemmas.Bool.{cases_lt, cases_eq, leb-true, le-leb}
 use Rattle.ipa_clock.specs.declared.dot.Dot.{Dot}
 use Rattle.ipa_clock.specs.declared.cut.Cut.{Cut}
 use Rattle.ipa_clock.specs.Cut.{count_of, greater_counts, joined, raised, empty}
-use Rattle.ipa_clock.specs.Laws.{BelowIsReflexive, BelowIsTransitive, BelowIsAntisymmetric, EmptyIsBelow, JoinedIsLeast, JoinedIsCommutative, JoinedIsAssociative, JoinedIsIdempotent, CoversFollowsBelow, CoversOfJoined, CoversOfRaised}
+use Rattle.ipa_clock.specs.Laws.{BelowIsReflexive, BelowIsTransitive, BelowIsAntisymmetric, EmptyIsBelow, CoveredIsCovers, JoinedIsLeast, JoinedIsCommutative, JoinedIsAssociative, JoinedIsIdempotent, CoversFollowsBelow, CoversOfJoined, CoversOfRaised}
 
 -- the cut with these counts
 abbrev cut_of : List ℕ → Cut
@@ -134,6 +134,9 @@ same_dot : (left right : Dot) → left.origin ≡ right.origin → left.number �
 same_dot left right same_origin same_number =
     let dot : ℕ → ℕ → Dot = λ origin number. record { origin = origin; number = number } in
     ap (λ origin. dot origin left.number) same_origin ∙ ap (dot right.origin) same_number
+
+pub covered_covers : CoveredIsCovers
+covered_covers cut dot = (leb-true dot.number (count_of cut dot.origin), le-leb dot.number (count_of cut dot.origin))
 
 pub covers_raised : CoversOfRaised
 covers_raised cut dot other exists next =

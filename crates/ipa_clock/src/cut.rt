@@ -1,6 +1,6 @@
 //! What has been seen: the first so many transactions of each origin.
 ghost use Rattle.std.specs.Prelude.{◌≡◌, ◌↔◌, ◌+◌, ◌<◌, IsTrue};
-ghost use Rattle.ipa_clock.specs.Cut.{count_of, Covers, IsBelow, empty, joined, raised};
+ghost use Rattle.ipa_clock.specs.Cut.{count_of, is_covered, IsBelow, empty, joined, raised};
 
 use crate::Dot;
 
@@ -25,7 +25,7 @@ impl Cut {
 
     /// Whether the transaction with this dot is in the cut.
     pub fn covers(&self, dot: Dot) -> bool
-        ensures { IsTrue result ↔ Covers self.now dot }
+        ensures { result ≡ is_covered self.now dot }
     {
         let count = self.counts.get(usize::from(dot.origin)).copied();
         dot.number <= count.unwrap_or(0)

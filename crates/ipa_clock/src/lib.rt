@@ -20,6 +20,3 @@ pub mod laws;
 
 pub use cut::Cut;
 pub use dot::Dot;
-
-#[cfg(test)]
-mod tests;

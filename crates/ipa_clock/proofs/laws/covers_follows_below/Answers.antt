@@ -1,5 +1,5 @@
-use Rattle.ipa_clock.specs.Lemmas.{covers_above, covers_joined, covers_raised}
+use Rattle.ipa_clock.specs.Lemmas.{covered_covers, covers_above, covers_joined, covers_raised}
 use Rattle.ipa_clock.proofs.laws.covers_follows_below.Goals as goal
 
 pub returns : goal.returns
-returns c = record { above = covers_above; joined = covers_joined; raised = covers_raised }
+returns c = record { test = covered_covers; above = covers_above; joined = covers_joined; raised = covers_raised }
