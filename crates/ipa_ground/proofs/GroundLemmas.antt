@@ -6,7 +6,6 @@ use Rattle.std.proofs.lemmas.Bool.{cases_Bool, or_left}
 use Rattle.std.proofs.lemmas.List.{take-append-drop}
 use Rattle.std.proofs.lemmas.List.Folds.{list_any-append, list_any_more, list_any_at}
 use Rattle.std.proofs.lemmas.List.Elements.{All-push, All-nil}
-use Rattle.ipa_spec.specs.FaultlessFits.{IsFit-from_faultless}
 use Rattle.ipa_spec.specs.declared.specification.Specification.{Specification}
 use Rattle.ipa_spec.specs.declared.clauses.Atom.{Atom}
 use Rattle.ipa_spec.specs.declared.clauses.Literal.{Literal}
@@ -22,37 +21,37 @@ use Rattle.ipa_ground.specs.Grounding.{test_of}
 use Rattle.ipa_ground.specs.GroundingSteps.{IsReady, IsLitOf, IsGroundLiteral, AreGround, IsAlwaysTrue, IsOpposite}
 use Rattle.ipa_ground.specs.GroundingLaws.{lit-same, lit-range}
 
--- the predicates of a faultless specification are short
+-- the predicates of a specification are short
 pub ready-short : (s : Specification) (universe : Universe) (starts : List ℕ) (first limit : ℕ) → IsReady s universe starts first limit → AreShort s.predicates
-ready-short s universe starts first limit h = AreShort-from_fit s (IsFit-from_faultless s h.faultless)
+ready-short s universe starts first limit h = AreShort-from_fit s h.fit
 
 module _ (s : Specification) (universe : Universe) (first : ℕ) where
   -- the facts that an assignment makes true
   abbrev pub state : List Bool → Fact → Bool
   state a = test_of first a (facts_over s.predicates universe)
 
-  pub ground-holds : (values : List ℕ) (atom : Atom) (lit : Lit) → AreShort s.predicates → IsLitOf s universe first (fact_of s.predicates values atom) true lit → IsGroundLiteral s universe first values (Holds atom) lit
-  ground-holds values atom lit short h = record { same = λ a. lit-same s universe first a (fact_of s.predicates values atom) true lit short h; range = lit-range s universe first (fact_of s.predicates values atom) true lit h }
+  pub ground-holds : (values : List ℕ) (atom : Atom) (lit : Lit) → AreShort s.predicates → IsLitOf s universe first (fact_of s values atom) true lit → IsGroundLiteral s universe first values (Holds atom) lit
+  ground-holds values atom lit short h = record { same = λ a. lit-same s universe first a (fact_of s values atom) true lit short h; range = lit-range s universe first (fact_of s values atom) true lit h }
 
-  pub ground-fails : (values : List ℕ) (atom : Atom) (lit : Lit) → AreShort s.predicates → IsLitOf s universe first (fact_of s.predicates values atom) false lit → IsGroundLiteral s universe first values (Fails atom) lit
-  ground-fails values atom lit short h = record { same = λ a. lit-same s universe first a (fact_of s.predicates values atom) false lit short h; range = lit-range s universe first (fact_of s.predicates values atom) false lit h }
+  pub ground-fails : (values : List ℕ) (atom : Atom) (lit : Lit) → AreShort s.predicates → IsLitOf s universe first (fact_of s values atom) false lit → IsGroundLiteral s universe first values (Fails atom) lit
+  ground-fails values atom lit short h = record { same = λ a. lit-same s universe first a (fact_of s values atom) false lit short h; range = lit-range s universe first (fact_of s values atom) false lit h }
 
   -- no literal yet
   pub ground-none : (values : List ℕ) → AreGround s universe first values [] []
   ground-none values = record { same = λ a. refl; range = All-nil (λ lit. lit.var < first + length (facts_over s.predicates universe)) }
 
   -- one literal more
-  next-any : (values : List ℕ) (ls : List Literal) (k : ℕ) (l : Literal) (t : Fact → Bool) (b : Bool) → k < length ls → l ≡ get_or ls k l → holds s.predicates t values l ≡ b
-      → list_any (holds s.predicates t values) (take (k + 1) ls) ≡ (list_any (holds s.predicates t values) (take k ls) || b)
+  next-any : (values : List ℕ) (ls : List Literal) (k : ℕ) (l : Literal) (t : Fact → Bool) (b : Bool) → k < length ls → l ≡ get_or ls k l → holds s t values l ≡ b
+      → list_any (holds s t values) (take (k + 1) ls) ≡ (list_any (holds s t values) (take k ls) || b)
   next-any values ls k l t b inside at e =
-      list_any_more (holds s.predicates t values) ls k l inside
-      ∙ ap (λ c. list_any (holds s.predicates t values) (take k ls) || c) (ap (holds s.predicates t values) (sym at) ∙ e)
+      list_any_more (holds s t values) ls k l inside
+      ∙ ap (λ c. list_any (holds s t values) (take k ls) || c) (ap (holds s t values) (sym at) ∙ e)
 
   -- a literal that is false
-  pub ground-false : (values : List ℕ) (ls : List Literal) (k : ℕ) (l : Literal) (lits : List Lit) → k < length ls → l ≡ get_or ls k l → ((t : Fact → Bool) → holds s.predicates t values l ≡ false)
+  pub ground-false : (values : List ℕ) (ls : List Literal) (k : ℕ) (l : Literal) (lits : List Lit) → k < length ls → l ≡ get_or ls k l → ((t : Fact → Bool) → holds s t values l ≡ false)
       → AreGround s universe first values (take k ls) lits → AreGround s universe first values (take (k + 1) ls) lits
   ground-false values ls k l lits inside at false_for h = record {
-    same = λ a. h.same a ∙ sym (next-any values ls k l (state a) false inside at (false_for (state a)) ∙ or-false (list_any (holds s.predicates (state a) values) (take k ls)));
+    same = λ a. h.same a ∙ sym (next-any values ls k l (state a) false inside at (false_for (state a)) ∙ or-false (list_any (holds s (state a) values) (take k ls)));
     range = h.range;
   }
 
@@ -62,15 +61,15 @@ module _ (s : Specification) (universe : Universe) (first : ℕ) where
   ground-depends values ls k l lits lit inside at g h = record {
     same = λ a. list_any-append (lit_true a) lits (lit ∷ [])
         ∙ ((λ i. h.same a i || (g.same a i || false))
-        ∙ (ap (λ c. list_any (holds s.predicates (state a) values) (take k ls) || c) (or-false (holds s.predicates (state a) values l))
-        ∙ sym (next-any values ls k l (state a) (holds s.predicates (state a) values l) inside at refl)));
+        ∙ (ap (λ c. list_any (holds s (state a) values) (take k ls) || c) (or-false (holds s (state a) values l))
+        ∙ sym (next-any values ls k l (state a) (holds s (state a) values l) inside at refl)));
     range = All-push (λ lit. lit.var < first + length (facts_over s.predicates universe)) lits lit h.range g.range;
   }
 
   -- a literal that is true
-  pub ground-true : (values : List ℕ) (ls : List Literal) (k : ℕ) (l : Literal) → k < length ls → l ≡ get_or ls k l → ((t : Fact → Bool) → holds s.predicates t values l ≡ true)
+  pub ground-true : (values : List ℕ) (ls : List Literal) (k : ℕ) (l : Literal) → k < length ls → l ≡ get_or ls k l → ((t : Fact → Bool) → holds s t values l ≡ true)
       → IsAlwaysTrue s universe first values ls
-  ground-true values ls k l inside at true_for = record { true_for = λ a. list_any_at (holds s.predicates (state a) values) ls k l inside (ap (holds s.predicates (state a) values) (sym at) ∙ true_for (state a)) }
+  ground-true values ls k l inside at true_for = record { true_for = λ a. list_any_at (holds s (state a) values) ls k l inside (ap (holds s (state a) values) (sym at) ∙ true_for (state a)) }
 
 -- opposites
 lit-opposite : (a : List Bool) (one other : Lit) → IsOpposite one other → lit_true a other ≡ not (lit_true a one)
@@ -92,9 +91,9 @@ pub ground-opposite : (s : Specification) (universe : Universe) (first : ℕ) (v
     → IsGroundLiteral s universe first values l lit → AreGround s universe first values (take k ls) lits → Any (IsOpposite lit) lits → IsAlwaysTrue s universe first values ls
 ground-opposite s universe first values ls k l lits lit inside at g h any = record { true_for = λ a. by a (cases_Bool (lit_true a lit)) }
   where
-    by : (a : List Bool) → (lit_true a lit ≡ true) ⊎ (lit_true a lit ≡ false) → list_any (holds s.predicates (test_of first a (facts_over s.predicates universe)) values) ls ≡ true
-    by a (inl here) = list_any_at (holds s.predicates (test_of first a (facts_over s.predicates universe)) values) ls k l inside (ap (holds s.predicates (test_of first a (facts_over s.predicates universe)) values) (sym at) ∙ (sym (g.same a) ∙ here))
+    by : (a : List Bool) → (lit_true a lit ≡ true) ⊎ (lit_true a lit ≡ false) → list_any (holds s (test_of first a (facts_over s.predicates universe)) values) ls ≡ true
+    by a (inl here) = list_any_at (holds s (test_of first a (facts_over s.predicates universe)) values) ls k l inside (ap (holds s (test_of first a (facts_over s.predicates universe)) values) (sym at) ∙ (sym (g.same a) ∙ here))
     by a (inr other) =
         let opposite : lit_true a any.1 ≡ true = lit-opposite a lit any.1 any.4 ∙ ap not other in
         let one : clause_true a lits ≡ true = list_any_at (lit_true a) lits any.0 any.1 any.2 (ap (lit_true a) any.3 ∙ opposite) in
-        any-kept (holds s.predicates (test_of first a (facts_over s.predicates universe)) values) ls k (sym (h.same a) ∙ one)
+        any-kept (holds s (test_of first a (facts_over s.predicates universe)) values) ls k (sym (h.same a) ∙ one)

@@ -17,8 +17,7 @@ use Rattle.ipa_sat.specs.Formula.{Formula, Satisfies}
 use Rattle.ipa_ground.specs.Enumeration.{facts_over, IsTuple}
 use Rattle.ipa_ground.specs.Instances.{filled, IsRest, FillsOver, PassesFrom, PassesBelow}
 use Rattle.ipa_ground.specs.ListLaws.{replicate-zero}
-use Rattle.ipa_spec.specs.Limits.{IsFaultless}
-use Rattle.ipa_spec.specs.FaultlessFits.{IsFit-from_faultless}
+use Rattle.ipa_spec.specs.Fits.{IsFit}
 use Rattle.ipa_ground.proofs.FormulaLemmas.{narrows-same, narrows-further}
 use Rattle.ipa_ground.specs.Grounding.{test_of, Narrows, Grounds}
 use Rattle.ipa_ground.specs.GroundingSteps.{GroundsFrom, GroundsInstance}
@@ -141,7 +140,7 @@ module _ (universe : Universe) (sorts : List ℕ) where
 module _ (s : Specification) (universe : Universe) (first : ℕ) (c : Clause) where
   -- the truth of the clause's instances in the state of an assignment
   abbrev pub truth : List Bool → List ℕ → Bool
-  truth a v = instance_true s.predicates (test_of first a (facts_over s.predicates universe)) v c
+  truth a v = instance_true s (test_of first a (facts_over s.predicates universe)) v c
 
   -- the formula has grown from an older one, and its instances with lesser elements at the place are true
   pub record GroundsBelow (at : ℕ) (values : List ℕ) (old new : Formula) (bound : ℕ) : Type 0 where
@@ -166,11 +165,11 @@ module _ (s : Specification) (universe : Universe) (first : ℕ) (c : Clause) wh
 
 -- a clause whose instances are true from the first variable on is kept
 pub grounds-clause : (s : Specification) (universe : Universe) (first : ℕ) (c : Clause) (f : Formula) (a : List Bool) → length c.vars ≤ 4 → GroundsFrom s universe first c 0 (0 ∷ 0 ∷ 0 ∷ 0 ∷ []) f
-    → Satisfies f a → KeepsClause s.predicates universe (test_of first a (facts_over s.predicates universe)) c
+    → Satisfies f a → KeepsClause s universe (test_of first a (facts_over s.predicates universe)) c
 grounds-clause s universe first c f a short g t = record {
   instances = λ v o.
       let whole = over-filled universe (sorts_of_vars c.vars) v (omega (arith, length-map c.vars (λ (w : Var). w.sort))) o in
-      subst (λ (w : List ℕ). instance_true s.predicates (test_of first a (facts_over s.predicates universe)) w c ≡ true) whole.1 ((g.passes a t).passes (take (length (sorts_of_vars c.vars)) v) whole.0);
+      subst (λ (w : List ℕ). instance_true s (test_of first a (facts_over s.predicates universe)) w c ≡ true) whole.1 ((g.passes a t).passes (take (length (sorts_of_vars c.vars)) v) whole.0);
 }
 
 -- the clauses before a number are kept
@@ -198,6 +197,6 @@ module _ (s : Specification) (universe : Universe) (first : ℕ) where
     );
   }
 
--- the four values of a clause of a faultless specification are open
-pub fills-clause : (s : Specification) (universe : Universe) (k : ℕ) (c : Clause) → IsFaultless s → slice_get s.clauses k ≡ Some c → FillsOver universe (sorts_of_vars c.vars) 0 (0 ∷ 0 ∷ 0 ∷ 0 ∷ [])
-fills-clause s universe k c h e = fills-none universe (sorts_of_vars c.vars) (omega (arith, (IsFit-from_faultless s h).variable_count k c e, length-map c.vars (λ (w : Var). w.sort)))
+-- the four values of a clause of a specification are open
+pub fills-clause : (s : Specification) (universe : Universe) (k : ℕ) (c : Clause) → IsFit s → slice_get s.clauses k ≡ Some c → FillsOver universe (sorts_of_vars c.vars) 0 (0 ∷ 0 ∷ 0 ∷ 0 ∷ [])
+fills-clause s universe k c h e = fills-none universe (sorts_of_vars c.vars) (omega (arith, h.variable_count k c e, length-map c.vars (λ (w : Var). w.sort)))

@@ -7,6 +7,7 @@ use Rattle.std.proofs.lemmas.Option.{slice_get_within, same_Some}
 use Rattle.std.proofs.lemmas.Nat.{mul-le}
 use Rattle.std.proofs.lemmas.Bool.{cases_lt}
 use Rattle.ipa_spec.specs.declared.predicates.Predicate.{Predicate}
+use Rattle.ipa_spec.specs.declared.specification.Specification.{Specification}
 use Rattle.ipa_logic.specs.Facts.{Universe, IsFact}
 use Rattle.ipa_logic.specs.declared.facts.Fact.{Fact}
 use Rattle.ipa_ground.specs.Enumeration.{numbers, tuples, IsTuple, three, size_in, place_sizes, facts_of, facts_from, facts_over}
@@ -168,8 +169,8 @@ number-found starts ps universe f p number h short e placed is =
     (get-facts_of (0 + f.predicate) p universe f short (omega arith) placed)
 
 -- the elements of a fact over the universe stand in its places
-pub fact-placed : (ps : List Predicate) (universe : Universe) (f : Fact) (p : Predicate) → IsFact ps universe f → slice_get ps f.predicate ≡ Some p → ArePlaced p.arity (size_in universe p) f.args
-fact-placed ps universe f p h e =
+pub fact-placed : (s : Specification) (universe : Universe) (f : Fact) (p : Predicate) → IsFact s universe f → slice_get s.predicates f.predicate ≡ Some p → ArePlaced p.arity (size_in universe p) f.args
+fact-placed s universe f p h e =
     subst (λ (q : Predicate). ArePlaced q.arity (size_in universe q) f.args) (same_Some h.predicate p (sym h.declared ∙ e))
     (record { elements = h.elements; unused = h.unused; width = h.width })
 

@@ -76,27 +76,31 @@ Rises-facts_from number (p ∷ ps) universe short = Rises-append fact_cmp (facts
     rw (less-from_lt f.predicate g.predicate above) refl)
 
 -- a listed fact is a fact over the universe
-pub facts_over-fact : (ps : List Predicate) (universe : Universe) (f : Fact) → AreShort ps → IsListed (facts_over ps universe) f → IsFact ps universe f
-facts_over-fact ps universe f short h =
-    let found = listed_facts_from 0 ps universe f short h in
+pub facts_over-fact : (s : Specification) (universe : Universe) (f : Fact) → AreShort s.predicates →
+    IsListed (facts_over s.predicates universe) f → IsFact s universe f
+facts_over-fact s universe f short h =
+    let found = listed_facts_from 0 s.predicates universe f short h in
     record {
       predicate = found.predicate;
-      declared = ap (slice_get ps) (found.numbered ∙ omega arith) ∙ found.declared;
+      declared = ap (slice_get s.predicates) (found.numbered ∙ omega arith) ∙ found.declared;
       elements = found.placed.elements;
       unused = found.placed.unused;
       width = found.placed.width;
     }
 
 -- a fact over the universe is listed
-pub fact-facts_over : (ps : List Predicate) (universe : Universe) (f : Fact) → AreShort ps → IsFact ps universe f → IsListed (facts_over ps universe) f
-fact-facts_over ps universe f short h = Listed-facts_from 0 ps universe f f.predicate h.predicate short h.declared (omega arith)
+pub fact-facts_over : (s : Specification) (universe : Universe) (f : Fact) → AreShort s.predicates →
+    IsFact s universe f → IsListed (facts_over s.predicates universe) f
+fact-facts_over s universe f short h =
+    Listed-facts_from 0 s.predicates universe f f.predicate h.predicate short h.declared (omega arith)
     (record { elements = h.elements; unused = h.unused; width = h.width })
 
 -- the facts over the universe are just those of the list
-pub has-facts_over : (ps : List Predicate) (universe : Universe) (f : Fact) → AreShort ps → (has (facts_over ps universe) f ≡ true) ↔ IsFact ps universe f
-has-facts_over ps universe f short = (
-  (λ h. facts_over-fact ps universe f short (Listed-has (facts_over ps universe) f h)),
-  (λ h. has-Listed (facts_over ps universe) f (fact-facts_over ps universe f short h)),
+pub has-facts_over : (s : Specification) (universe : Universe) (f : Fact) → AreShort s.predicates →
+    (has (facts_over s.predicates universe) f ≡ true) ↔ IsFact s universe f
+has-facts_over s universe f short = (
+  (λ h. facts_over-fact s universe f short (Listed-has (facts_over s.predicates universe) f h)),
+  (λ h. has-Listed (facts_over s.predicates universe) f (fact-facts_over s universe f short h)),
 )
 
 -- they stand strictly in the order of facts

@@ -1,40 +1,55 @@
--- What fits in the clauses of a faultless specification and in their instances.
+-- What fits in the clauses of a specification and in their instances.
 --
---   ClauseFits-declared   a clause of a faultless specification fits
+--   IsUniverse-any        all sizes are a universe of a specification without constants
+--   ClauseFits-declared   a clause of a fitting specification fits
 --   FactFits-literal      the fact of a literal that fits is one over the universe, at values over it
 --   FactFits-read         and so is that of a literal that is read from a clause that fits
-use Rattle.std.proofs.Common.{◌≡◌, ℕ, ◌<◌, List, length, Some, refl, subst, slice_get, get_or}
+use Rattle.std.proofs.Common.{◌≡◌, ℕ, ◌<◌, List, length, Some, refl, ap, arith, subst, slice_get, get_or}
 use Rattle.std.proofs.lemmas.Option.{slice_get_read}
 use Rattle.ipa_spec.specs.Actions.{sorts_of_vars}
-use Rattle.ipa_spec.specs.Fits.{LiteralFits}
-use Rattle.ipa_spec.specs.FaultlessFits.{IsFit-from_faultless}
-use Rattle.ipa_spec.specs.Limits.{IsFaultless}
+use Rattle.ipa_spec.specs.Constants.{constants_of}
+use Rattle.ipa_spec.specs.Fits.{LiteralFits, IsFit}
 use Rattle.ipa_spec.specs.declared.specification.Specification.{Specification}
-use Rattle.ipa_spec.specs.declared.predicates.Predicate.{Predicate}
+use Rattle.ipa_spec.specs.declared.constants.Constant.{Constant}
 use Rattle.ipa_spec.specs.declared.clauses.Clause.{Clause}
 use Rattle.ipa_spec.specs.declared.clauses.Literal.{Literal}
 use Rattle.ipa_spec.specs.declared.clauses.Literal.TheVariants.{Holds, Fails, Same, Differ}
-use Rattle.ipa_logic.specs.Facts.{Universe}
+use Rattle.ipa_logic.specs.Facts.{Universe, IsUniverse}
 use Rattle.ipa_logic.specs.FitLaws.{IsFact-fact_of}
 use Rattle.ipa_logic.specs.Truth.{IsOver}
 use Rattle.ipa_ground.specs.Instances.{ClauseFits, FactFits}
 
--- a clause of a faultless specification fits
-pub ClauseFits-declared : (s : Specification) (k : ℕ) (c : Clause) → IsFaultless s → slice_get s.clauses k ≡ Some c → ClauseFits s.predicates c
-ClauseFits-declared s k c h e =
-    let fit = IsFit-from_faultless s h in
-    record { variable_count = fit.variable_count k c e; literal_count = fit.literal_count k c e; literals = λ j l at. fit.literals k j c l e at }
+-- all sizes are a universe of a specification without constants
+pub IsUniverse-any : (s : Specification) (universe : Universe) → IsFit s → IsUniverse s universe
+IsUniverse-any s universe fit = record {
+  constants = λ sort. let none : length (constants_of s.constants sort) ≡ 0 =
+      ap (λ (cs : List Constant). length (constants_of cs sort)) fit.no_constants in omega arith;
+}
+
+-- a clause of a fitting specification fits
+pub ClauseFits-declared : (s : Specification) (k : ℕ) (c : Clause) → IsFit s → slice_get s.clauses k ≡ Some c →
+    ClauseFits s c
+ClauseFits-declared s k c fit e = record {
+  variable_count = fit.variable_count k c e;
+  literal_count = fit.literal_count k c e;
+  literals = λ j l at. fit.literals k j c l e at;
+}
 
 -- the fact of a literal that fits is one over the universe, at values over it
-pub FactFits-literal : (ps : List Predicate) (universe : Universe) (sorts values : List ℕ) (l : Literal) → LiteralFits ps sorts l → IsOver universe sorts values → FactFits ps universe values l
-FactFits-literal ps universe sorts values (Holds a) fits over = IsFact-fact_of ps universe sorts values a fits over
-FactFits-literal ps universe sorts values (Fails a) fits over = IsFact-fact_of ps universe sorts values a fits over
-FactFits-literal ps universe sorts values (Same v w) fits over = tt
-FactFits-literal ps universe sorts values (Differ v w) fits over = tt
+pub FactFits-literal : (s : Specification) (universe : Universe) (sorts values : List ℕ) (l : Literal) →
+    IsUniverse s universe → LiteralFits s sorts l → IsOver universe sorts values → FactFits s universe values l
+FactFits-literal s universe sorts values (Holds a) large fits over =
+    IsFact-fact_of s universe sorts values a large fits over
+FactFits-literal s universe sorts values (Fails a) large fits over =
+    IsFact-fact_of s universe sorts values a large fits over
+FactFits-literal s universe sorts values (Same v w) large fits over = tt
+FactFits-literal s universe sorts values (Differ v w) large fits over = tt
 
 -- and so is that of a literal that is read from a clause that fits
-pub FactFits-read : (ps : List Predicate) (universe : Universe) (values : List ℕ) (c : Clause) (k : ℕ) (l : Literal) (items : List Literal) → ClauseFits ps c → IsOver universe (sorts_of_vars c.vars) values
-    → items ≡ c.literals → k < length items → l ≡ get_or items k l → FactFits ps universe values l
-FactFits-read ps universe values c k l items fits over same inside at =
-    FactFits-literal ps universe (sorts_of_vars c.vars) values l
-    (fits.literals k l (subst (λ (xs : List Literal). slice_get xs k ≡ Some l) same (slice_get_read items (length items) k l refl inside at))) over
+pub FactFits-read : (s : Specification) (universe : Universe) (values : List ℕ) (c : Clause) (k : ℕ) (l : Literal)
+    (items : List Literal) → IsFit s → ClauseFits s c → IsOver universe (sorts_of_vars c.vars) values →
+    items ≡ c.literals → k < length items → l ≡ get_or items k l → FactFits s universe values l
+FactFits-read s universe values c k l items fit fits over same inside at =
+    FactFits-literal s universe (sorts_of_vars c.vars) values l (IsUniverse-any s universe fit)
+    (fits.literals k l (subst (λ (xs : List Literal). slice_get xs k ≡ Some l) same
+    (slice_get_read items (length items) k l refl inside at))) over

@@ -4,12 +4,12 @@
 --   FillsOver universe sorts at values   however they are filled from the place on, the values are over the universe
 --   PassesFrom p universe sorts at values   p passes however they are filled
 --   PassesBelow p .. bound           p passes where the first element is below the bound
---   ClauseFits ps c                  the clause is as short as in a faultless specification, and its literals fit
---   FactFits ps universe values l    the literal's fact is one over the universe
+--   ClauseFits s c                   the clause is as short as in a faultless specification, and its literals fit
+--   FactFits s universe values l     the literal's fact is one over the universe
 use Rattle.std.specs.Prelude.{◌≡◌, ℕ, ◌+◌, ◌<◌, ◌≤◌, Bool, true, List, [], ◌∷◌, length, map, drop, slice_get, slice_set, Some}
 use Rattle.ipa_spec.specs.Actions.{sorts_of_vars}
 use Rattle.ipa_spec.specs.Fits.{LiteralFits}
-use Rattle.ipa_spec.specs.declared.predicates.Predicate.{Predicate}
+use Rattle.ipa_spec.specs.declared.specification.Specification.{Specification}
 use Rattle.ipa_spec.specs.declared.clauses.Clause.{Clause}
 use Rattle.ipa_spec.specs.declared.clauses.Literal.{Literal}
 use Rattle.ipa_spec.specs.declared.clauses.Literal.TheVariants.{Holds, Fails, Same, Differ}
@@ -31,22 +31,25 @@ pub record FillsOver (universe : Universe) (sorts : List ℕ) (at : ℕ) (values
   pub over : (rest : List ℕ) → IsRest universe sorts at rest → IsOver universe sorts (filled at values rest)
 
 -- p passes however the values are filled from the place on
-pub record PassesFrom (p : List ℕ → Bool) (universe : Universe) (sorts : List ℕ) (at : ℕ) (values : List ℕ) : Type 0 where
+pub record PassesFrom (p : List ℕ → Bool) (universe : Universe) (sorts : List ℕ) (at : ℕ)
+    (values : List ℕ) : Type 0 where
   pub passes : (rest : List ℕ) → IsRest universe sorts at rest → p (filled at values rest) ≡ true
 
 -- p passes where the element at the place is below the bound
-pub record PassesBelow (p : List ℕ → Bool) (universe : Universe) (sorts : List ℕ) (at : ℕ) (values : List ℕ) (bound : ℕ) : Type 0 where
-  pub passes : (x : ℕ) (rest : List ℕ) → x < bound → IsRest universe sorts at (x ∷ rest) → p (filled at values (x ∷ rest)) ≡ true
+pub record PassesBelow (p : List ℕ → Bool) (universe : Universe) (sorts : List ℕ) (at : ℕ) (values : List ℕ)
+    (bound : ℕ) : Type 0 where
+  pub passes : (x : ℕ) (rest : List ℕ) → x < bound → IsRest universe sorts at (x ∷ rest) →
+      p (filled at values (x ∷ rest)) ≡ true
 
 -- the clause is as short as in a faultless specification, and its literals fit its variables
-pub record ClauseFits (ps : List Predicate) (c : Clause) : Type 0 where
+pub record ClauseFits (s : Specification) (c : Clause) : Type 0 where
   pub variable_count : length c.vars ≤ 4
   pub literal_count : length c.literals ≤ 6
-  pub literals : (k : ℕ) (l : Literal) → slice_get c.literals k ≡ Some l → LiteralFits ps (sorts_of_vars c.vars) l
+  pub literals : (k : ℕ) (l : Literal) → slice_get c.literals k ≡ Some l → LiteralFits s (sorts_of_vars c.vars) l
 
 -- the literal's fact is one over the universe
-abbrev pub FactFits : List Predicate → Universe → List ℕ → Literal → Type 0
-FactFits ps universe values (Holds a) = IsFact ps universe (fact_of ps values a)
-FactFits ps universe values (Fails a) = IsFact ps universe (fact_of ps values a)
-FactFits ps universe values (Same v w) = Unit {0}
-FactFits ps universe values (Differ v w) = Unit {0}
+abbrev pub FactFits : Specification → Universe → List ℕ → Literal → Type 0
+FactFits s universe values (Holds a) = IsFact s universe (fact_of s values a)
+FactFits s universe values (Fails a) = IsFact s universe (fact_of s values a)
+FactFits s universe values (Same v w) = Unit {0}
+FactFits s universe values (Differ v w) = Unit {0}

@@ -5,7 +5,7 @@
 //! its instance.
 ghost use Rattle.std.specs.Prelude.{◌≡◌, ◌+◌, ◌≤◌, ◌↔◌, Bool, List, length, OnOk, OnErr, IfOk, MatchOption};
 ghost use Rattle.ipa_spec.specs.Actions.{sorts_of_vars};
-ghost use Rattle.ipa_logic.specs.Truth.{IsOver, fact_of, same_value};
+ghost use Rattle.ipa_logic.specs.Truth.{IsOver, fact_of};
 ghost use Rattle.ipa_sat.specs.Formula.{Satisfies};
 ghost use Rattle.ipa_ground.specs.Enumeration.{facts_over, IsListed};
 ghost use Rattle.ipa_ground.specs.Places.{AreSmall};
@@ -16,8 +16,9 @@ ghost use Rattle.ipa_logic.specs.Facts.{IsFact};
 
 use crate::disjunction::Disjunction;
 use crate::numbering::{fact_count, number_from, starts};
-use ipa_logic::{Universe, element_of, fact_of, size_of};
+use ipa_logic::{Universe, fact_of, has_same_value, size_of};
 use ipa_sat::{Cnf, Lit};
+use ipa_spec::laws::spec_is_fit;
 use ipa_spec::{Atom, Clause, Literal, Spec};
 use std::alloc::{AllocError, Global};
 
@@ -69,6 +70,7 @@ pub fn ground_clauses_into(
     ensures ok { OnOk result (Grounds spec.now universe.now.sizes first cnf.old cnf.new) }
     ensures refused { OnErr result (Narrows spec.now universe.now.sizes first cnf.old cnf.new) }
 {
+    spec_is_fit(spec);
     let grounder = Grounder {
         spec,
         universe,
@@ -93,7 +95,7 @@ fn ground_values(
     requires ready { IsReady grounder.now.spec.now grounder.now.universe.now.sizes grounder.now.starts grounder.now.first grounder.now.vars }
     requires room { grounder.now.vars ≤ cnf.old.vars }
     requires declared { IsListed grounder.now.spec.now.clauses clause.now }
-    requires fits { ClauseFits grounder.now.spec.now.predicates clause.now }
+    requires fits { ClauseFits grounder.now.spec.now clause.now }
     requires over { FillsOver grounder.now.universe.now.sizes (sorts_of_vars clause.now.vars) at values }
     ensures narrows { Narrows grounder.now.spec.now grounder.now.universe.now.sizes grounder.now.first cnf.old cnf.new }
     ensures ok { OnOk result (GroundsFrom grounder.now.spec.now grounder.now.universe.now.sizes grounder.now.first clause.now at values cnf.new) }
@@ -119,7 +121,7 @@ fn ground_instance(
     requires ready { IsReady grounder.now.spec.now grounder.now.universe.now.sizes grounder.now.starts grounder.now.first grounder.now.vars }
     requires room { grounder.now.vars ≤ cnf.old.vars }
     requires declared { IsListed grounder.now.spec.now.clauses clause.now }
-    requires fits { ClauseFits grounder.now.spec.now.predicates clause.now }
+    requires fits { ClauseFits grounder.now.spec.now clause.now }
     requires over { IsOver grounder.now.universe.now.sizes (sorts_of_vars clause.now.vars) values.now }
     ensures narrows { Narrows grounder.now.spec.now grounder.now.universe.now.sizes grounder.now.first cnf.old cnf.new }
     ensures ok { OnOk result (GroundsInstance grounder.now.spec.now grounder.now.universe.now.sizes grounder.now.first clause.now values.now cnf.new) }
@@ -133,7 +135,7 @@ fn ground_instance(
 // The literals of an instance that depend on facts, or `None` where the instance is always true.
 fn ground_literals(grounder: &Grounder, clause: &Clause, values: &[u16; 4]) -> Option<Disjunction>
     requires ready { IsReady grounder.now.spec.now grounder.now.universe.now.sizes grounder.now.starts grounder.now.first grounder.now.vars }
-    requires fits { ClauseFits grounder.now.spec.now.predicates clause.now }
+    requires fits { ClauseFits grounder.now.spec.now clause.now }
     requires over { IsOver grounder.now.universe.now.sizes (sorts_of_vars clause.now.vars) values.now }
     ensures { MatchOption result
         (IsAlwaysTrue grounder.now.spec.now grounder.now.universe.now.sizes grounder.now.first values.now clause.now.literals)
@@ -158,22 +160,27 @@ fn ground_literals(grounder: &Grounder, clause: &Clause, values: &[u16; 4]) -> O
 // What a literal of the instance comes to.
 fn ground_literal(grounder: &Grounder, literal: &Literal, values: &[u16; 4]) -> Ground
     requires ready { IsReady grounder.now.spec.now grounder.now.universe.now.sizes grounder.now.starts grounder.now.first grounder.now.vars }
-    requires fact { FactFits grounder.now.spec.now.predicates grounder.now.universe.now.sizes values.now literal.now }
+    requires fact { FactFits grounder.now.spec.now grounder.now.universe.now.sizes values.now literal.now }
     ensures { ComesTo grounder.now.spec.now grounder.now.universe.now.sizes grounder.now.first values.now literal.now result }
 {
     match literal {
         Literal::Holds(atom) => Ground::Depends(ground_atom(grounder, atom, values, true)),
         Literal::Fails(atom) => Ground::Depends(ground_atom(grounder, atom, values, false)),
-        Literal::Same(one, other) => decided(has_same_value(values, *one, *other)),
-        Literal::Differ(one, other) => decided(!has_same_value(values, *one, *other)),
+        Literal::Same(one, other) => decided(has_same_value(grounder.spec, values, *one, *other)),
+        Literal::Differ(one, other) => decided(!has_same_value(
+            grounder.spec,
+            values,
+            *one,
+            *other,
+        )),
     }
 }
 
 // The literal of the formula for a fact, or for its opposite.
 fn ground_atom(grounder: &Grounder, atom: &Atom, values: &[u16; 4], positive: bool) -> Lit
     requires ready { IsReady grounder.now.spec.now grounder.now.universe.now.sizes grounder.now.starts grounder.now.first grounder.now.vars }
-    requires fact { IsFact grounder.now.spec.now.predicates grounder.now.universe.now.sizes (fact_of grounder.now.spec.now.predicates values.now atom.now) }
-    ensures { IsLitOf grounder.now.spec.now grounder.now.universe.now.sizes grounder.now.first (fact_of grounder.now.spec.now.predicates values.now atom.now) positive result }
+    requires fact { IsFact grounder.now.spec.now grounder.now.universe.now.sizes (fact_of grounder.now.spec.now values.now atom.now) }
+    ensures { IsLitOf grounder.now.spec.now grounder.now.universe.now.sizes grounder.now.first (fact_of grounder.now.spec.now values.now atom.now) positive result }
 {
     let fact = fact_of(grounder.spec, atom, values);
     Lit {
@@ -188,11 +195,4 @@ fn decided(holds: bool) -> Ground
     ensures { IsDecided holds result }
 {
     if holds { Ground::True } else { Ground::False }
-}
-
-// Whether two variables have the same value.
-fn has_same_value(values: &[u16; 4], one: u8, other: u8) -> bool
-    ensures { result ≡ same_value values.now one other }
-{
-    element_of(values, one) == element_of(values, other)
 }

@@ -3,7 +3,7 @@ ghost use Rattle.std.specs.Prelude.{◌≡◌, ◌↔◌, ℕ, List, true};
 ghost use Rattle.std.specs.List.Sorted.{IsStrictlySortedBy};
 ghost use Rattle.std.specs.Ordering.{nat_cmp};
 ghost use Rattle.std.specs.Cmp.Lexicographic.{slice_cmp};
-ghost use Rattle.ipa_spec.specs.declared.predicates.Predicate.{Predicate};
+ghost use Rattle.ipa_spec.specs.declared.specification.Specification.{Specification};
 ghost use Rattle.ipa_logic.specs.Facts.{Universe, IsFact, IsRising, has};
 ghost use Rattle.ipa_logic.specs.declared.facts.Fact.{Fact};
 ghost use Rattle.ipa_ground.specs.Enumeration.{AreShort, IsListed, facts_over};
@@ -28,6 +28,6 @@ pub fn one_pattern_has_the_equalities()
 
 /// The facts over a universe are listed strictly in their order, and no others are.
 pub fn facts_are_listed_once()
-    ensures listed { (ps : List Predicate) (universe : Universe) (f : Fact) → AreShort ps → (has (facts_over ps universe) f ≡ true) ↔ IsFact ps universe f }
-    ensures rising { (ps : List Predicate) (universe : Universe) → AreShort ps → IsRising (facts_over ps universe) }
+    ensures listed { (s : Specification) (universe : Universe) (f : Fact) → AreShort s.predicates → (has (facts_over s.predicates universe) f ≡ true) ↔ IsFact s universe f }
+    ensures rising { (s : Specification) (universe : Universe) → AreShort s.predicates → IsRising (facts_over s.predicates universe) }
 {}

@@ -25,6 +25,3 @@ mod patterns;
 pub use grounding::{ground_clauses, ground_clauses_into};
 pub use numbering::{fact_count, fact_number};
 pub use patterns::{Pattern, Patterns};
-
-#[cfg(test)]
-mod tests;

@@ -4,20 +4,20 @@
 //! their elements, so a place is where the predicate's facts start, and then the number that the
 //! elements spell.
 ghost use Rattle.std.specs.Prelude.{◌≡◌, ◌+◌, ◌*◌, ◌<◌, ◌≤◌, Some, length, take, slice_get, slice_index, All};
-ghost use Rattle.ipa_spec.specs.Limits.{IsFaultless};
 ghost use Rattle.ipa_logic.specs.Facts.{IsFact, size_of};
 ghost use Rattle.ipa_ground.specs.Enumeration.{facts_over, place_sizes};
 ghost use Rattle.ipa_ground.specs.EnumerationLaws.{ArePlaced};
 ghost use Rattle.ipa_ground.specs.Places.{AreSmall, AreStarts, tuple_count, tuple_place};
 
 use ipa_logic::{Fact, Universe, size_of};
+use ipa_spec::laws::spec_is_fit;
 use ipa_spec::{Predicate, Spec};
 
 /// The place of a fact over the universe among all facts over it, counted from 0 in the order of
 /// facts. It takes no memory.
 pub fn fact_number(spec: &Spec, universe: &Universe, fact: &Fact) -> u32
     requires sizes { AreSmall universe.now.sizes }
-    requires fact { IsFact spec.now.predicates universe.now.sizes fact.now }
+    requires fact { IsFact spec.now universe.now.sizes fact.now }
     ensures { slice_get (facts_over spec.now.predicates universe.now.sizes) result ≡ Some fact.now }
 {
     number_from(spec, universe, &starts(spec, universe), fact)
@@ -28,6 +28,7 @@ pub fn fact_count(spec: &Spec, universe: &Universe) -> u32
     requires { AreSmall universe.now.sizes }
     ensures { result ≡ length (facts_over spec.now.predicates universe.now.sizes) }
 {
+    spec_is_fit(spec);
     let starts = starts(spec, universe);
     starts[spec.predicates().len()]
 }
@@ -36,10 +37,10 @@ pub fn fact_count(spec: &Spec, universe: &Universe) -> u32
 pub(crate) fn number_from(spec: &Spec, universe: &Universe, starts: &[u32; 33], fact: &Fact) -> u32
     requires sizes { AreSmall universe.now.sizes }
     requires starts { AreStarts starts.now spec.now.predicates universe.now.sizes }
-    requires faultless { IsFaultless spec.now }
-    requires fact { IsFact spec.now.predicates universe.now.sizes fact.now }
+    requires fact { IsFact spec.now universe.now.sizes fact.now }
     ensures { slice_get (facts_over spec.now.predicates universe.now.sizes) result ≡ Some fact.now }
 {
+    spec_is_fit(spec);
     match spec.predicates().get(fact.predicate as usize) {
         Some(predicate) => starts[fact.predicate as usize] + number_in(universe, predicate, fact),
         None => 0,
@@ -49,10 +50,9 @@ pub(crate) fn number_from(spec: &Spec, universe: &Universe, starts: &[u32; 33], 
 /// The number of the first fact of each predicate, and after them the number of all facts.
 pub(crate) fn starts(spec: &Spec, universe: &Universe) -> [u32; 33]
     requires { AreSmall universe.now.sizes }
-    ensures starts { AreStarts result spec.now.predicates universe.now.sizes }
-    ensures faultless { IsFaultless spec.now }
+    ensures { AreStarts result spec.now.predicates universe.now.sizes }
 {
-    let _ = spec.clauses();
+    spec_is_fit(spec);
     let mut starts = [0; 33];
     for (number, predicate) in spec.predicates().as_slice().iter().enumerate() {
         starts[number + 1] = starts[number] + count_of(universe, predicate);

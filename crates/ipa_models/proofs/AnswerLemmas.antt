@@ -73,7 +73,7 @@ first-skip facts a n g state rising l at t h = record {
 pub first-all : (facts : List Fact) (a : List Bool) (n : ℕ) (state : List Fact) → length facts ≤ n → StandsForFirst facts a n state → StandsFor facts a state
 first-all facts a n state l h = record {
   rising = h.rising;
-  same = λ f. h.same f ∙ (ap (λ (gs : List Fact). has gs f && test_of 6 a facts f) (take_all n facts l) ∙ listed f (cases_Bool (has facts f)));
+  facts = λ f. h.same f ∙ (ap (λ (gs : List Fact). has gs f && test_of 6 a facts f) (take_all n facts l) ∙ listed f (cases_Bool (has facts f)));
 }
   where
     listed : (f : Fact) → (has facts f ≡ true) ⊎ (has facts f ≡ false) → (has facts f && test_of 6 a facts f) ≡ test_of 6 a facts f

@@ -69,14 +69,14 @@ module _ (s : Specification) (universe : Universe) (values : List ℕ) (ls : Lis
 
   -- the truth of the fact literals
   abbrev front : (Fact → Bool) → List Bool
-  front t = fact_truths s.predicates values ls t
+  front t = fact_truths s values ls t
 
   -- the assignment of a test
   abbrev assigned : (Fact → Bool) → List Bool
   assigned t = front t ++ (spare ++ map t all_facts)
 
   length-front : (t : Fact → Bool) → length (front t) ≡ length (filter is_of_fact ls)
-  length-front t = length-map (filter is_of_fact ls) (literal_true s.predicates t values)
+  length-front t = length-map (filter is_of_fact ls) (literal_true s t values)
 
   length-first : (t : Fact → Bool) → length ls ≤ 6 → length (front t ++ spare) ≡ 6
   length-first t few = omega (arith, length-append (front t) spare, length-front t, length-replicate (6 - length (filter is_of_fact ls)) false, filter-few ls)
@@ -122,7 +122,7 @@ module _ (s : Specification) (universe : Universe) (values : List ℕ) (ls : Lis
   answer-from_state : (demands : List Demand) (state : List Fact) → AreShort s.predicates → length ls ≤ 6 → Meets s universe demands state → IsAnswer s universe values ls demands (assigned (has state))
   answer-from_state demands state short few meets =
       let same : state_of s universe (assigned (has state)) ≡ has state
-      = same-state (has state) few (λ f h. (has-facts_over s.predicates universe f short).1 (meets.state.facts f h)) in
+      = same-state (has state) few (λ f h. (has-facts_over s universe f short).1 (meets.state.facts f h)) in
       record {
         total = length-assigned (has state) few;
         keeps = subst (Keeps s universe) (sym same) meets.keeps;
@@ -159,7 +159,7 @@ module _ (s : Specification) (universe : Universe) (values : List ℕ) (ls : Lis
       → StandsFor all_facts a state → IsFirstMeeting s universe values ls demands state
   first-meets demands f a state short few q least stands = record {
     meets = record {
-      state = record { rising = stands.rising; facts = λ f h. (has-facts_over s.predicates universe f short).0 (listed f (cases_Bool (has all_facts f)) (sym (stands.same f) ∙ h)) };
+      state = record { rising = stands.rising; facts = λ f h. (has-facts_over s universe f short).0 (listed f (cases_Bool (has all_facts f)) (sym (stands.facts f) ∙ h)) };
       keeps = subst (Keeps s universe) (sym same) answer.keeps;
       demanded = subst (λ (t : Fact → Bool). AsDemanded t demands) (sym same) answer.demanded;
     };
@@ -179,7 +179,7 @@ module _ (s : Specification) (universe : Universe) (values : List ℕ) (ls : Lis
       answer = (q.satisfied a).0 least.satisfies
 
       same : has state ≡ state_of s universe a
-      same = λ i f. stands.same f i
+      same = λ i f. stands.facts f i
 
       at : (v : ℕ) → value (assigned (has state)) v ≡ value a v
       at v = ap (λ (t : Fact → Bool). value (assigned t) v) same ∙ same-value demands a short few answer v
@@ -192,10 +192,10 @@ module _ (s : Specification) (universe : Universe) (values : List ℕ) (ls : Lis
 pub none-found : (s : Specification) (universe : Universe) (values : List ℕ) (c : Clause) (demands : List Demand) (f : Formula) → IsListed s.clauses c → IsQuestion s universe values c.literals demands f
     → IsUnsatisfiable f → (state : List Fact) → Meets s universe demands state → ⊥
 none-found s universe values c demands f listed q none =
-    none-meets s universe values c.literals demands f (short-predicates s universe q.numbered) (ClauseFits-declared s listed.place c q.numbered.faultless listed.there).literal_count q none
+    none-meets s universe values c.literals demands f (short-predicates s universe q.numbered) (ClauseFits-declared s listed.place c q.numbered.fit listed.there).literal_count q none
 
 pub first-found : (s : Specification) (universe : Universe) (values : List ℕ) (c : Clause) (demands : List Demand) (f : Formula) (facts : List Fact) (a : List Bool) (state : List Fact) → IsListed s.clauses c
     → IsQuestion s universe values c.literals demands f → IsLeast f a → facts ≡ facts_over s.predicates universe → StandsFor facts a state → IsFirstMeeting s universe values c.literals demands state
 first-found s universe values c demands f facts a state listed q least same stands =
-    first-meets s universe values c.literals demands f a state (short-predicates s universe q.numbered) (ClauseFits-declared s listed.place c q.numbered.faultless listed.there).literal_count q least
+    first-meets s universe values c.literals demands f a state (short-predicates s universe q.numbered) (ClauseFits-declared s listed.place c q.numbered.fit listed.there).literal_count q least
     (subst (λ (fs : List Fact). StandsFor fs a state) same stands)

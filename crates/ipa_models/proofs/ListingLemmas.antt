@@ -8,8 +8,7 @@ use Rattle.std.proofs.lemmas.Nat.{mul-le}
 use Rattle.std.proofs.lemmas.Simd.{map-map}
 use Rattle.ipa_spec.specs.declared.specification.Specification.{Specification}
 use Rattle.ipa_spec.specs.declared.predicates.Predicate.{Predicate}
-use Rattle.ipa_spec.specs.Limits.{IsFaultless}
-use Rattle.ipa_spec.specs.FaultlessFits.{IsFit-from_faultless}
+use Rattle.ipa_spec.specs.Fits.{IsFit}
 use Rattle.ipa_logic.specs.Facts.{Universe, size_of}
 use Rattle.ipa_logic.specs.declared.facts.Fact.{Fact}
 use Rattle.ipa_ground.specs.Enumeration.{numbers, branches, tuples, three, size_in, place_sizes, facts_of, facts_from, facts_over}
@@ -124,11 +123,9 @@ facts-few universe small number (p ∷ ps) h =
     omega arith
 
 -- the variables of the facts have numbers
-pub numbered : (s : Specification) (universe : Universe) → IsFaultless s → AreSmall universe → IsNumbered s universe
-numbered s universe faultless small = record {
-  faultless = faultless;
+pub numbered : (s : Specification) (universe : Universe) → IsFit s → AreSmall universe → IsNumbered s universe
+numbered s universe fit small = record {
+  fit = fit;
   small = small;
-  room =
-      let fit = IsFit-from_faultless s faultless in
-      omega (arith, facts-few universe small 0 s.predicates fit.arities, fit.predicate_count);
+  room = omega (arith, facts-few universe small 0 s.predicates fit.arities, fit.predicate_count);
 }

@@ -8,7 +8,6 @@ use Rattle.ipa_spec.specs.declared.specification.Specification.{Specification}
 use Rattle.ipa_spec.specs.declared.clauses.Atom.{Atom}
 use Rattle.ipa_spec.specs.declared.clauses.Literal.{Literal}
 use Rattle.ipa_spec.specs.declared.clauses.Literal.TheVariants.{Holds, Fails}
-use Rattle.ipa_spec.specs.FaultlessFits.{IsFit-from_faultless}
 use Rattle.ipa_sat.specs.Formula.{Formula, Satisfies, value, clause_true, literal_true as lit_true}
 use Rattle.ipa_sat.specs.declared.cnf.Lit.{Lit}
 use Rattle.ipa_logic.specs.Facts.{Universe}
@@ -173,7 +172,7 @@ filter-few ls = omega (arith, length-filter is_of_fact ls, count_by-le-length is
 module _ (s : Specification) (universe : Universe) (values : List ℕ) where
   -- the truth of a literal under an assignment
   abbrev truth : List Bool → Literal → Bool
-  truth a l = literal_true s.predicates (state_of s universe a) values l
+  truth a l = literal_true s (state_of s universe a) values l
 
   pub ties-none : (l : Literal) (n : ℕ) (f : Formula) → is_of_fact l ≡ false → TiesMore s universe values l n n f f
   ties-none l n f e = record {
@@ -211,24 +210,24 @@ module _ (s : Specification) (universe : Universe) (values : List ℕ) where
       subst (λ (xs : List Literal). IsTied s universe values xs next base g) (sym (take_more ls k l inside ∙ ap (λ (x : Literal). take k ls ++ x ∷ []) (sym at))) (t.more base (take k ls) h)
 
   pub tied-all : (ls : List Literal) (n : ℕ) (base f g : Formula) → length ls ≤ 6 → IsTied s universe values ls n base f → Adds (AreDenied n 6) f g
-      → Adds (λ a. AreTied 6 a (fact_truths s.predicates values ls (state_of s universe a))) base g
+      → Adds (λ a. AreTied 6 a (fact_truths s values ls (state_of s universe a))) base g
   tied-all ls n base f g few h d =
-      adds-same (λ a. AreTied n a (fact_truths s.predicates values ls (state_of s universe a)) × AreDenied n 6 a) (λ a. AreTied 6 a (fact_truths s.predicates values ls (state_of s universe a))) base g
-      (λ a. tied-padded n a (fact_truths s.predicates values ls (state_of s universe a)) (omega (arith, h.count, filter-few ls)) (length-map (filter is_of_fact ls) (truth a) ∙ sym h.count))
-      (adds-both (λ a. AreTied n a (fact_truths s.predicates values ls (state_of s universe a))) (AreDenied n 6) base f g h.adds d)
+      adds-same (λ a. AreTied n a (fact_truths s values ls (state_of s universe a)) × AreDenied n 6 a) (λ a. AreTied 6 a (fact_truths s values ls (state_of s universe a))) base g
+      (λ a. tied-padded n a (fact_truths s values ls (state_of s universe a)) (omega (arith, h.count, filter-few ls)) (length-map (filter is_of_fact ls) (truth a) ∙ sym h.count))
+      (adds-both (λ a. AreTied n a (fact_truths s values ls (state_of s universe a))) (AreDenied n 6) base f g h.adds d)
 
   -- no more variables are taken than literals are read
   pub tied-few : (ls : List Literal) (k n : ℕ) (f g : Formula) → k ≤ length ls → IsTied s universe values (take k ls) n f g → n ≤ k
   tied-few ls k n f g l h = omega (arith, h.count, filter-few (take k ls), length-take-le k ls l)
 
   pub tied-end : (items ls : List Literal) (k n : ℕ) (base f g : Formula) → items ≡ ls → length items ≤ k → length ls ≤ 6 → IsTied s universe values (take k items) n base f → Adds (AreDenied n 6) f g
-      → Adds (λ a. AreTied 6 a (fact_truths s.predicates values ls (state_of s universe a))) base g
+      → Adds (λ a. AreTied 6 a (fact_truths s values ls (state_of s universe a))) base g
   tied-end items ls k n base f g same l few h d =
       tied-all ls n base f g few (subst (λ (xs : List Literal). IsTied s universe values xs n base f) (take_all k items l ∙ same) h) d
 
 -- the literal of a fact
 pub short-predicates : (s : Specification) (universe : Universe) → IsNumbered s universe → AreShort s.predicates
-short-predicates s universe h = AreShort-from_fit s (IsFit-from_faultless s h.faultless)
+short-predicates s universe h = AreShort-from_fit s h.fit
 
 pub literal-for : (s : Specification) (universe : Universe) (f : Fact) (positive : Bool) (number : ℕ) → IsNumbered s universe → slice_get (facts_over s.predicates universe) number ≡ Some f
     → IsLiteralFor s universe f positive (lit_of (6 + number) positive)
@@ -240,10 +239,10 @@ literal-for s universe f positive number h there = record {
     is : IsLitOf s universe 6 f positive (lit_of (6 + number) positive)
     is = record { place = number; there = there; var_is = refl; sign = refl }
 
-pub literal-holds : (s : Specification) (universe : Universe) (values : List ℕ) (atom : Atom) (lit : Lit) → IsLiteralFor s universe (fact_of s.predicates values atom) true lit → IsLiteralOf s universe values (Holds atom) lit
+pub literal-holds : (s : Specification) (universe : Universe) (values : List ℕ) (atom : Atom) (lit : Lit) → IsLiteralFor s universe (fact_of s values atom) true lit → IsLiteralOf s universe values (Holds atom) lit
 literal-holds s universe values atom lit h = record { of_fact = refl; same = h.same; range = h.range }
 
-pub literal-fails : (s : Specification) (universe : Universe) (values : List ℕ) (atom : Atom) (lit : Lit) → IsLiteralFor s universe (fact_of s.predicates values atom) false lit → IsLiteralOf s universe values (Fails atom) lit
+pub literal-fails : (s : Specification) (universe : Universe) (values : List ℕ) (atom : Atom) (lit : Lit) → IsLiteralFor s universe (fact_of s values atom) false lit → IsLiteralOf s universe values (Fails atom) lit
 literal-fails s universe values atom lit h = record { of_fact = refl; same = h.same; range = h.range }
 
 -- demands
@@ -294,7 +293,7 @@ grounded s universe facts n f g numbered same count empty grounds = record {
 
 -- all that is asked
 pub question : (s : Specification) (universe : Universe) (facts : List Fact) (values : List ℕ) (ls : List Literal) (demands : List Demand) (f g h : Formula) → IsGrounded s universe facts f
-    → Adds (λ a. AreTied 6 a (fact_truths s.predicates values ls (state_of s universe a))) f g → Adds (λ a. AsDemanded (state_of s universe a) demands) g h → IsQuestion s universe values ls demands h
+    → Adds (λ a. AreTied 6 a (fact_truths s values ls (state_of s universe a))) f g → Adds (λ a. AsDemanded (state_of s universe a) demands) g h → IsQuestion s universe values ls demands h
 question s universe facts values ls demands f g h grounded tied asked = record {
   numbered = grounded.numbered;
   satisfied = λ a. (

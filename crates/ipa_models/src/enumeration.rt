@@ -4,6 +4,7 @@ ghost use Rattle.ipa_ground.specs.Enumeration.{facts_over, place_sizes};
 ghost use Rattle.ipa_models.specs.Listing.{facts_with};
 
 use ipa_logic::{Fact, Universe, size_of};
+use ipa_spec::laws::spec_is_fit;
 use ipa_spec::{List, Predicate, Spec};
 use std::alloc::{AllocError, Global};
 
@@ -15,7 +16,7 @@ pub(crate) fn facts_over(
 ) -> Result<List<Fact>, AllocError>
     ensures { IfOk result (λ facts. facts ≡ facts_over spec.now.predicates universe.now.sizes) }
 {
-    let _ = spec.clauses();
+    spec_is_fit(spec);
     let mut facts = List::new(alloc);
     for (number, predicate) in spec.predicates().as_slice().iter().enumerate() {
         let first = Fact {

@@ -12,6 +12,3 @@ mod question;
 
 pub use demands::Demand;
 pub use models::Models;
-
-#[cfg(test)]
-mod tests;

@@ -20,6 +20,7 @@ use crate::question::{ask, tie_literals};
 use ipa_ground::{fact_count, ground_clauses_into};
 use ipa_logic::{Fact, State, Universe};
 use ipa_sat::{Cnf, least};
+use ipa_spec::laws::spec_is_fit;
 use ipa_spec::{Clause, List, Spec};
 use std::alloc::{AllocError, Global};
 use std::marker::Model;
@@ -50,7 +51,7 @@ impl<'a> Models<'a> {
         requires { AreSmall universe.sizes }
         ensures { IfOk result (λ models. models ≡ record { spec = spec.now; universe = universe.sizes }) }
     {
-        let _ = spec.clauses();
+        spec_is_fit(spec);
         let facts = facts_over(alloc, spec, &universe)?;
         let mut formula = Cnf::new(alloc, 6 + fact_count(spec, &universe));
         ground_clauses_into(&mut formula, 6, spec, &universe)?;
@@ -82,7 +83,7 @@ impl<'a> Models<'a> {
     ) -> Result<Option<State>, AllocError>
         requires declared { IsListed self.now.spec.clauses clause.now }
         requires values { IsOver self.now.universe (sorts_of_vars clause.now.vars) values.now }
-        requires facts { AreFacts self.now.spec.predicates self.now.universe demands.now }
+        requires facts { AreFacts self.now.spec self.now.universe demands.now }
         ensures { IfOk result (λ found. MatchOption found
             ((state : List Fact) → Meets self.now.spec self.now.universe demands.now state → ⊥)
             (λ state. IsFirstMeeting self.now.spec self.now.universe values.now clause.now.literals demands.now state)) }
@@ -103,7 +104,7 @@ impl<'a> Models<'a> {
     ) -> Result<Cnf, AllocError>
         requires declared { IsListed self.now.spec.clauses clause.now }
         requires values { IsOver self.now.universe (sorts_of_vars clause.now.vars) values.now }
-        requires facts { AreFacts self.now.spec.predicates self.now.universe demands.now }
+        requires facts { AreFacts self.now.spec self.now.universe demands.now }
         ensures { IfOk result (λ question. IsQuestion self.now.spec self.now.universe values.now clause.now.literals demands.now question) }
     {
         let mut formula = self.formula.copy()?;

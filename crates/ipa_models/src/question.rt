@@ -31,9 +31,9 @@ pub(crate) fn tie_literals(
 ) -> Result<(), AllocError>
     requires numbered { IsNumbered spec.now universe.now.sizes }
     requires room { formula.old.vars ≡ 6 + length (facts_over spec.now.predicates universe.now.sizes) }
-    requires fits { ClauseFits spec.now.predicates clause.now }
+    requires fits { ClauseFits spec.now clause.now }
     requires over { IsOver universe.now.sizes (sorts_of_vars clause.now.vars) values.now }
-    ensures { OnOk result (Adds (λ a. AreTied 6 a (fact_truths spec.now.predicates values.now clause.now.literals (state_of spec.now universe.now.sizes a))) formula.old formula.new) }
+    ensures { OnOk result (Adds (λ a. AreTied 6 a (fact_truths spec.now values.now clause.now.literals (state_of spec.now universe.now.sizes a))) formula.old formula.new) }
 {
     let mut count = 0;
     for literal in clause.literals.as_slice() {
@@ -54,7 +54,7 @@ fn tie_literal(
 ) -> Result<u32, AllocError>
     requires numbered { IsNumbered spec.now universe.now.sizes }
     requires room { formula.old.vars ≡ 6 + length (facts_over spec.now.predicates universe.now.sizes) }
-    requires fact { FactFits spec.now.predicates universe.now.sizes values.now literal.now }
+    requires fact { FactFits spec.now universe.now.sizes values.now literal.now }
     requires few { count < 6 }
     ensures { IfOk result (λ next. TiesMore spec.now universe.now.sizes values.now literal.now count next formula.old formula.new) }
 {
@@ -117,7 +117,7 @@ pub(crate) fn ask(
 ) -> Result<(), AllocError>
     requires numbered { IsNumbered spec.now universe.now.sizes }
     requires room { formula.old.vars ≡ 6 + length (facts_over spec.now.predicates universe.now.sizes) }
-    requires facts { AreFacts spec.now.predicates universe.now.sizes demands.now }
+    requires facts { AreFacts spec.now universe.now.sizes demands.now }
     ensures { OnOk result (Adds (λ a. AsDemanded (state_of spec.now universe.now.sizes a) demands.now) formula.old formula.new) }
 {
     for demand in demands {
@@ -129,7 +129,7 @@ pub(crate) fn ask(
 // The literal of the formula for a fact literal of the instance, and `None` for a comparison.
 fn literal_of(spec: &Spec, universe: &Universe, literal: &Literal, values: &[u16; 4]) -> Option<Lit>
     requires numbered { IsNumbered spec.now universe.now.sizes }
-    requires fact { FactFits spec.now.predicates universe.now.sizes values.now literal.now }
+    requires fact { FactFits spec.now universe.now.sizes values.now literal.now }
     ensures { MatchOption result (is_of_fact literal.now ≡ false) (λ lit. IsLiteralOf spec.now universe.now.sizes values.now literal.now lit) }
 {
     match literal {
@@ -149,7 +149,7 @@ fn literal_of(spec: &Spec, universe: &Universe, literal: &Literal, values: &[u16
 // The literal of the formula for a fact, or for its opposite.
 fn literal_for(spec: &Spec, universe: &Universe, fact: Fact, positive: bool) -> Lit
     requires numbered { IsNumbered spec.now universe.now.sizes }
-    requires fact { IsFact spec.now.predicates universe.now.sizes fact }
+    requires fact { IsFact spec.now universe.now.sizes fact }
     ensures { IsLiteralFor spec.now universe.now.sizes fact positive result }
 {
     Lit {

@@ -10,7 +10,7 @@ use Rattle.std.specs.List.{AllByRecursion, slice_get}
 use Rattle.std.proofs.lemmas.Bool.{cases_Bool, false≢true}
 use Rattle.std.proofs.lemmas.Option.{slice_get_within}
 use Rattle.std.proofs.lemmas.List.Elements.{recursion_from_All}
-use Rattle.ipa_spec.specs.Actions.{IsAction, effects_of}
+use Rattle.ipa_spec.specs.Actions.{IsAction}
 use Rattle.ipa_spec.specs.declared.specification.Specification.{Specification}
 use Rattle.ipa_spec.specs.declared.bounds.Bound.{Bound}
 use Rattle.ipa_spec.specs.declared.clauses.Clause.{Clause}
@@ -22,7 +22,7 @@ use Rattle.ipa_logic.specs.Touches.{plain_application}
 use Rattle.ipa_logic.specs.Conflicts.{Conflict}
 use Rattle.ipa_logic.specs.Acceptance.{DropBreaks, IsAccepted, IsSafeDrop}
 use Rattle.ipa_ground.specs.Enumeration.{IsListed}
-use Rattle.ipa_cases.specs.Cases.{ConflictOn, DropBreaksOn}
+use Rattle.ipa_reduction.specs.Cases.{ConflictOn, DropBreaksOn}
 use Rattle.ipa_pairs.specs.Width.{IsDeclared}
 use Rattle.ipa_pairs.specs.Triples.{triple}
 use Rattle.ipa_pairs.specs.Examples.{IsReportedExample, IsReportedDrop}
@@ -54,7 +54,7 @@ module _ (s : Specification) where
   safe-from_none none n = record {
     keeps = λ b universe args before d. record {
       clauses = λ k c declared. record {
-        instances = λ values over. elim (cases_Bool (instance_true s.predicates (plain_application (effects_of s (Drop n)) args (has before)) values c)) [
+        instances = λ values over. elim (cases_Bool (instance_true s (plain_application s (Drop n) args (has before)) values c)) [
           | inl kept ↦ kept
           | inr broken ↦ absurd (none n k (record {
             bound = b;
@@ -64,9 +64,7 @@ module _ (s : Specification) where
             args = args;
             values = values;
             before = before;
-            droppable = d;
-            clause_values = over;
-            broken = broken;
+            breaks = record { droppable = d; clause_values = over; broken = broken };
           }))
         ];
       };
@@ -82,9 +80,9 @@ module _ (s : Specification) where
   -- an unsafe drop is none that is safe
   unsafe : (n k : ℕ) → IsSafeDrop s n → DropBreaks s n k → ⊥
   unsafe n k safe h =
-      let kept = safe.keeps h.bound h.universe h.args h.before h.droppable in
-      let instance = (kept.clauses k h.clause h.declared).instances h.values h.clause_values in
-      false≢true (sym h.broken ∙ instance)
+      let kept = safe.keeps h.bound h.universe h.args h.before h.breaks.droppable in
+      let instance = (kept.clauses k h.clause h.declared).instances h.values h.breaks.clause_values in
+      false≢true (sym h.breaks.broken ∙ instance)
 
   -- a reported example is a conflict
   rejected-by_conflict : (e : Example)

@@ -7,10 +7,11 @@ use Rattle.std.specs.List.{list_any, list_all, AllByRecursion}
 use Rattle.std.proofs.lemmas.Bool.{false≢true, and_parts}
 use Rattle.std.proofs.lemmas.Option.{same_Some}
 use Rattle.ipa_spec.specs.FoundLaws.{list_any-false}
-use Rattle.ipa_spec.specs.declared.predicates.Predicate.{Predicate}
+use Rattle.ipa_spec.specs.Actions.{effects_of}
+use Rattle.ipa_spec.specs.declared.specification.Specification.{Specification}
 use Rattle.ipa_spec.specs.declared.clauses.Literal.{Literal}
 use Rattle.ipa_spec.specs.declared.clauses.Literal.TheVariants.{Holds, Fails, Same, Differ}
-use Rattle.ipa_spec.specs.declared.operations.Effect.{Effect}
+use Rattle.ipa_spec.specs.declared.operations.Action.{Action}
 use Rattle.ipa_logic.specs.Truth.{fact_of, same_value, literal_true}
 use Rattle.ipa_logic.specs.Touches.{adds, some_takes, removes, touch_of, plain_application, touches_need}
 use Rattle.ipa_logic.specs.declared.facts.Fact.{Fact}
@@ -84,25 +85,25 @@ chained : {A B C : Type 0} → (A ↔ B) → (B ↔ C) → A ↔ C
 chained f g = ((λ a. g.0 (f.0 a)), (λ c. f.1 (g.1 c)))
 
 -- what is asked for a literal
-pub answers-for : (t : Fact → Bool) (ps : List Predicate) (values : List ℕ) (l : Literal) (holds : Bool) → Answers t (asked_for ps values l holds) ↔ (literal_true ps t values l ≡ holds)
-answers-for t ps values (Holds a) holds = ((λ h. h), (λ h. h))
-answers-for t ps values (Fails a) holds = denied (t (fact_of ps values a)) holds
-answers-for t ps values (Same v w) holds = chained (answers-decided t (cond holds (same_value values v w) (not (same_value values v w)))) (decided-as (same_value values v w) holds)
-answers-for t ps values (Differ v w) holds = chained (answers-decided t (cond (not holds) (same_value values v w) (not (same_value values v w)))) (decided-as-not (same_value values v w) holds)
+pub answers-for : (t : Fact → Bool) (s : Specification) (values : List ℕ) (l : Literal) (holds : Bool) → Answers t (asked_for s values l holds) ↔ (literal_true s t values l ≡ holds)
+answers-for t s values (Holds a) holds = ((λ h. h), (λ h. h))
+answers-for t s values (Fails a) holds = denied (t (fact_of s values a)) holds
+answers-for t s values (Same v w) holds = chained (answers-decided t (cond holds (same_value s values v w) (not (same_value s values v w)))) (decided-as (same_value s values v w) holds)
+answers-for t s values (Differ v w) holds = chained (answers-decided t (cond (not holds) (same_value s values v w) (not (same_value s values v w)))) (decided-as-not (same_value s values v w) holds)
 
 -- what is asked by a need
-pub answers-need : (t : Fact → Bool) (ps : List Predicate) (effects : List Effect) (args : List ℕ) (l : Literal)
-    → Answers t (asked_by_need ps effects args l) ↔ ((touches_need ps effects args l || literal_true ps t args l) ≡ true)
-answers-need t ps effects args l = by (touches_need ps effects args l)
+pub answers-need : (t : Fact → Bool) (s : Specification) (action : Action) (args : List ℕ) (l : Literal)
+    → Answers t (asked_by_need s action args l) ↔ ((touches_need s action args l || literal_true s t args l) ≡ true)
+answers-need t s action args l = by (touches_need s action args l)
   where
-    by : (b : Bool) → Answers t (cond b asked.Nothing (asked_for ps args l true)) ↔ ((b || literal_true ps t args l) ≡ true)
+    by : (b : Bool) → Answers t (cond b asked.Nothing (asked_for s args l true)) ↔ ((b || literal_true s t args l) ≡ true)
     by true = ((λ h. refl), (λ h. tt))
-    by false = answers-for t ps args l true
+    by false = answers-for t s args l true
 
 -- what is asked of a fact that is touched
-pub answers-touch : (t : Fact → Bool) (effects : List Effect) (args : List ℕ) (f : Fact)
-    → Answers t (asked_by_touch f (touch_of effects args f)) ↔ ((adds effects args f ≡ true → t f ≡ true) × (removes effects args f ≡ true → t f ≡ false))
-answers-touch t effects args f = by (adds effects args f) (some_takes effects args f)
+pub answers-touch : (t : Fact → Bool) (s : Specification) (action : Action) (args : List ℕ) (f : Fact)
+    → Answers t (asked_by_touch f (touch_of s action args f)) ↔ ((adds s action args f ≡ true → t f ≡ true) × (removes s action args f ≡ true → t f ≡ false))
+answers-touch t s action args f = by (adds s action args f) (some_takes s (effects_of s action) args f)
   where
     by : (a r : Bool) → Answers t (asked_by_touch f (cond a touch.Adds (cond (r && not a) touch.Removes touch.Nothing)))
         ↔ ((a ≡ true → t f ≡ true) × ((r && not a) ≡ true → t f ≡ false))
@@ -112,9 +113,9 @@ answers-touch t effects args f = by (adds effects args f) (some_takes effects ar
     by false false = ((λ h. ((λ e. absurd (false≢true e)), (λ e. absurd (false≢true e)))), (λ h. tt))
 
 -- what is asked of a fact before the effects
-answers-before : (t : Fact → Bool) (effects : List Effect) (args : List ℕ) (f : Fact) (holds : Bool)
-    → Answers t (asked_before f (touch_of effects args f) holds) ↔ (plain_application effects args t f ≡ holds)
-answers-before t effects args f holds = by (adds effects args f) (some_takes effects args f) (t f) holds refl
+answers-before : (t : Fact → Bool) (s : Specification) (action : Action) (args : List ℕ) (f : Fact) (holds : Bool)
+    → Answers t (asked_before f (touch_of s action args f) holds) ↔ (plain_application s action args t f ≡ holds)
+answers-before t s action args f holds = by (adds s action args f) (some_takes s (effects_of s action) args f) (t f) holds refl
   where
     by : (a r b holds : Bool) → t f ≡ b → Answers t (asked_before f (cond a touch.Adds (cond (r && not a) touch.Removes touch.Nothing)) holds)
         ↔ ((a || (b && not (r && not a))) ≡ holds)
@@ -128,13 +129,13 @@ answers-before t effects args f holds = by (adds effects args f) (some_takes eff
     by false false false holds e = ((λ h. sym e ∙ h), (λ h. e ∙ h))
 
 -- what is asked before the effects so that a literal is false after them
-pub answers-after : (t : Fact → Bool) (ps : List Predicate) (effects : List Effect) (args values : List ℕ) (l : Literal)
-    → Answers t (asked_after ps effects args values l) ↔ (literal_true ps (plain_application effects args t) values l ≡ false)
-answers-after t ps effects args values (Holds a) = answers-before t effects args (fact_of ps values a) false
-answers-after t ps effects args values (Fails a) = chained (answers-before t effects args (fact_of ps values a) true) (denied (plain_application effects args t (fact_of ps values a)) false)
-answers-after t ps effects args values (Same v w) = chained (answers-decided t (not (same_value values v w))) (denied-true (same_value values v w))
+pub answers-after : (t : Fact → Bool) (s : Specification) (action : Action) (args values : List ℕ) (l : Literal)
+    → Answers t (asked_after s action args values l) ↔ (literal_true s (plain_application s action args t) values l ≡ false)
+answers-after t s action args values (Holds a) = answers-before t s action args (fact_of s values a) false
+answers-after t s action args values (Fails a) = chained (answers-before t s action args (fact_of s values a) true) (denied (plain_application s action args t (fact_of s values a)) false)
+answers-after t s action args values (Same v w) = chained (answers-decided t (not (same_value s values v w))) (denied-true (same_value s values v w))
   where
     denied-true : (b : Bool) → (not b ≡ true) ↔ (b ≡ false)
     denied-true true = ((λ h. absurd (false≢true h)), (λ h. absurd (false≢true (sym h))))
     denied-true false = ((λ h. refl), (λ h. refl))
-answers-after t ps effects args values (Differ v w) = chained (answers-decided t (same_value values v w)) (denied (same_value values v w) false)
+answers-after t s action args values (Differ v w) = chained (answers-decided t (same_value s values v w)) (denied (same_value s values v w) false)

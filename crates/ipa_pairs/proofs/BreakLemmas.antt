@@ -1,22 +1,24 @@
 -- The first example of a drop on a pattern.
 --
+--   spared-break         where the drop makes no literal false, it breaks nothing there
 --   impossible-break     where what the drop asks is impossible, it breaks nothing there
 --   no-state             where no state meets the demands, it breaks nothing there
 --   first-break          the first state that meets them gives the first example
 --   facts-of-drop        the demands are of facts over the universe
-use Rattle.std.proofs.Common.{◌≡◌, ℕ, Bool, List, Some, refl, sym, ap, ◌∙◌, subst, slice_get}
-use Rattle.ipa_spec.specs.Actions.{effects_of}
+use Rattle.std.proofs.Common.{◌≡◌, ℕ, Bool, true, false, List, Some, refl, sym, ap, ◌∙◌, subst, slice_get}
+use Rattle.std.proofs.lemmas.Bool.{false≢true}
 use Rattle.ipa_spec.specs.Fits.{IsFit}
 use Rattle.ipa_spec.specs.declared.specification.Specification.{Specification}
 use Rattle.ipa_spec.specs.declared.bounds.Bound.{Bound}
 use Rattle.ipa_spec.specs.declared.clauses.Clause.{Clause}
+use Rattle.ipa_spec.specs.declared.clauses.Literal.{Literal}
 use Rattle.ipa_spec.specs.declared.operations.Action.TheVariants.{Drop}
 use Rattle.ipa_logic.specs.Facts.{has}
-use Rattle.ipa_logic.specs.Acceptance.{drop_fact}
+use Rattle.ipa_logic.specs.Conflicts.{falsifies_some}
 use Rattle.ipa_logic.specs.declared.facts.Fact.{Fact}
 use Rattle.ipa_models.specs.Models.{Setting, AreFacts, Meets, IsFirstMeeting}
 use Rattle.ipa_models.specs.declared.demands.Demand.{Demand}
-use Rattle.ipa_cases.specs.Cases.{DropBreaksOn}
+use Rattle.ipa_reduction.specs.Cases.{DropBreaksOn}
 use Rattle.ipa_pairs.specs.Asked.{AnswersEach, IsGathered, asks_of_drop}
 use Rattle.ipa_pairs.specs.Examples.{IsFirstDropExampleOn}
 use Rattle.ipa_pairs.specs.Openness.{drop_case_of, IsOverDropCase}
@@ -34,7 +36,13 @@ module _ (s : Specification) (n : ℕ) (b : Bound) (c : Clause) (classes : List 
   here = drop_case_of s n c classes
 
   abbrev pub asks_at : DropCase → List Asked
-  asks_at case = asks_of_drop s.predicates (effects_of s (Drop n)) (drop_fact s.predicates b case.args) case.args case.values c.literals
+  asks_at case = asks_of_drop s n b case.args case.values c.literals
+
+  -- where the drop makes no literal of the instance false, it breaks nothing there
+  pub spared-break : (case : DropCase) → case ≡ here → (literals : List Literal) → literals ≡ c.literals → (is : Bool) → is ≡ falsifies_some s (Drop n) case.args case.values literals → is ≡ false
+      → (DropBreaksOn s n b c classes → falsifies_some s (Drop n) here.args here.values c.literals ≡ true) → DropBreaksOn s n b c classes → ⊥
+  spared-break case case_is literals same is is_is spared law h =
+      false≢true (sym spared ∙ (is_is ∙ ((λ i. falsifies_some s (Drop n) (case_is i).args (case_is i).values (same i)) ∙ law h)))
 
   -- where what the drop asks is impossible, it breaks nothing there
   pub impossible-break : (case : DropCase) → case ≡ here → (slice : List Asked) → slice ≡ asks_at case → ((t : Fact → Bool) → AnswersEach t slice → ⊥) → DropBreaksOn s n b c classes → ⊥
@@ -69,7 +77,7 @@ module _ (s : Specification) (n : ℕ) (b : Bound) (c : Clause) (classes : List 
           universe = refl;
           args = refl;
           values = refl;
-          shows = meets-break s n b c here.universe.sizes here.args here.values demands same declared there.args there.values before first_here.meets;
+          shows = meets-break s n b c here.universe.sizes here.args here.values demands same declared there.sizes there.args there.values before first_here.meets;
         };
         first_before = λ other o earlier. first_here.first other (break-meets s n b c here.universe.sizes here.args here.values demands same other o) earlier;
       } in
@@ -77,9 +85,9 @@ module _ (s : Specification) (n : ℕ) (b : Bound) (c : Clause) (classes : List 
 
   -- the demands are of facts over the universe
   pub facts-of-drop : (case : DropCase) → IsFit s → (number : ℕ) → slice_get s.bounds n ≡ Some b → slice_get s.clauses number ≡ Some c → IsOverDropCase s n c case → (slice : List Asked) → slice ≡ asks_at case
-      → (demands lent : List Demand) → lent ≡ demands → IsGathered slice demands → (m : Setting) → m ≡ record { spec = s; universe = case.universe.sizes } → AreFacts m.spec.predicates m.universe lent
+      → (demands lent : List Demand) → lent ≡ demands → IsGathered slice demands → (m : Setting) → m ≡ record { spec = s; universe = case.universe.sizes } → AreFacts m.spec m.universe lent
   facts-of-drop case fit number declared g over slice slice_is demands lent lent_is gathered m m_is =
-      subst (λ (x : Setting). AreFacts x.spec.predicates x.universe lent) (sym m_is)
-      (subst (λ (d : List Demand). AreFacts s.predicates case.universe.sizes d) (sym lent_is)
-      ((subst (λ (a : List Asked). IsGathered a demands) slice_is gathered).facts s.predicates case.universe.sizes
-      (of-facts-drop s n b c case.universe.sizes case.args case.values fit number declared g over.args over.values)))
+      subst (λ (x : Setting). AreFacts x.spec x.universe lent) (sym m_is)
+      (subst (λ (d : List Demand). AreFacts s case.universe.sizes d) (sym lent_is)
+      ((subst (λ (a : List Asked). IsGathered a demands) slice_is gathered).facts s case.universe.sizes
+      (of-facts-drop s n b c case.universe.sizes case.args case.values fit over.sizes number declared g over.args over.values)))

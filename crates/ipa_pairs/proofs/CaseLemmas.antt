@@ -11,7 +11,7 @@ use Rattle.ipa_spec.specs.declared.operations.Action.{Action}
 use Rattle.ipa_spec.specs.declared.operations.Action.TheVariants.{Drop}
 use Rattle.ipa_ground.specs.Patterns.{args_at, pattern_universe}
 use Rattle.ipa_ground.specs.declared.patterns.Pattern.{Pattern}
-use Rattle.ipa_cases.specs.Cases.{triple_sorts, drop_sorts, AreTripleArguments, AreDropArguments}
+use Rattle.ipa_reduction.specs.Cases.{triple_sorts, drop_sorts, AreTripleArguments, AreDropArguments}
 use Rattle.ipa_pairs.specs.Openness.{case_of, IsOverCase, drop_case_of, IsOverDropCase}
 use Rattle.ipa_pairs.specs.Patterned.{classes_of, IsPatternOf}
 use Rattle.ipa_pairs.specs.declared.cases.Case.{Case}
@@ -43,7 +43,7 @@ case-is s left right c p h n m j n_is m_is j_is l r v l_is r_is v_is case is =
 
 -- the case of a pattern is over its universe
 pub over-case : (s : Specification) (left right : Action) (c : Clause) (classes : List ℕ) → AreTripleArguments s left right c classes → IsOverCase s c (case_of s left right c classes)
-over-case s left right c classes h = record { left = h.left; right = h.right; values = h.values }
+over-case s left right c classes h = record { sizes = h.sizes; left = h.left; right = h.right; values = h.values }
 
 -- the same for a drop and a clause
 pub drop-case-is : (s : Specification) (n : ℕ) (c : Clause) (p : Pattern) → IsPatternOf (drop_sorts s n c) p
@@ -56,4 +56,4 @@ drop-case-is s n c p h m j m_is j_is a v a_is v_is case is =
     is ∙ (λ i. record { universe = record { sizes = pattern-sizes (drop_sorts s n c) p h i }; args = args i; values = values i })
 
 pub over-drop-case : (s : Specification) (n : ℕ) (c : Clause) (classes : List ℕ) → AreDropArguments s n c classes → IsOverDropCase s n c (drop_case_of s n c classes)
-over-drop-case s n c classes h = record { args = h.args; values = h.values }
+over-drop-case s n c classes h = record { sizes = h.sizes; args = h.args; values = h.values }

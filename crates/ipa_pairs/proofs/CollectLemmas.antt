@@ -3,7 +3,8 @@
 --   extends-nothing, extends-one   of no case, and of a case whose example is found
 --   extends-both                   some cases after others
 --   extends-same                   of the same cases
---   AreReported-from_collects, AreReportedDrops-from_collects   a whole analysis
+--   collects-from_extends          a list that has grown from nothing
+--   AreReportedDrops-from_extends  the drops of a whole analysis
 use Rattle.std.proofs.Common.{◌≡◌, ℕ, List, [], ◌∷◌, ◌++◌, refl, sym, ap, ◌∙◌, subst, inl, inr}
 use Rattle.std.specs.List.{All}
 use Rattle.std.specs.Ordering.{nat_cmp}
@@ -15,11 +16,9 @@ use Rattle.ipa_spec.specs.declared.specification.Specification.{Specification}
 use Rattle.ipa_logic.specs.Acceptance.{DropBreaks}
 use Rattle.ipa_ground.specs.Enumeration.{IsListed}
 use Rattle.ipa_ground.specs.ListLaws.{Listed-append_left, Listed-append_right, each_listed, each_from_listed, Rises-append, Rises-none, Rises-one}
-use Rattle.ipa_pairs.specs.Width.{Triple, triple_key}
-use Rattle.ipa_pairs.specs.Examples.{IsReportedExample, IsReportedDrop}
-use Rattle.ipa_pairs.specs.Analyses.{triple_of, AreReported, AreReportedDrops}
-use Rattle.ipa_pairs.specs.Collecting.{Collects, Extends, IsInConflict, BoundClause, bound_clause, bound_clause_of, bound_clause_key, IsUnsafe, IsDeclaredDrop}
-use Rattle.ipa_pairs.specs.declared.analysis.Conflict.{Conflict as Example}
+use Rattle.ipa_pairs.specs.Examples.{IsReportedDrop}
+use Rattle.ipa_pairs.specs.Analyses.{Collects, AreReportedDrops}
+use Rattle.ipa_pairs.specs.Collecting.{Extends, BoundClause, bound_clause, bound_clause_of, bound_clause_key, IsUnsafe, IsDeclaredDrop}
 use Rattle.ipa_pairs.specs.declared.analysis.UnsafeDrop.{UnsafeDrop}
 use Rattle.ipa_pairs.proofs.OrderLemmas.{IsSplit}
 
@@ -93,18 +92,9 @@ module _ {X T : Type 0} (of : X → T) (key : T → List ℕ) (IsExample : X →
   collects-from_extends Q xs h = subst (Collects of key IsExample IsThere Q) (sym h.grown) h.collects
 
 module _ (s : Specification) where
-  pub AreReported-from_extends : (Q : Triple → Type 0) (es : List Example)
-      → Extends triple_of (triple_key s) (IsReportedExample s) (IsInConflict s) Q [] es → AreReported s Q es
-  AreReported-from_extends Q es h =
-      let c = collects-from_extends triple_of (triple_key s) (IsReportedExample s) (IsInConflict s) Q es h in record {
-        each = c.each;
-        rising = c.rising;
-        complete = λ t q there. (let o = c.complete t q there in record { example = o.example; listed = o.listed; is = o.is });
-      }
-
   drop_declared : (n k : ℕ) → DropBreaks s n k → IsDeclaredDrop s (bound_clause n k)
   drop_declared n k h = record {
-    bound_declared = slice_get_within s.bounds n h.bound h.droppable.declared;
+    bound_declared = slice_get_within s.bounds n h.bound h.breaks.droppable.declared;
     clause_declared = slice_get_within s.clauses k h.clause h.declared;
   }
 

@@ -13,7 +13,8 @@ use Rattle.ipa_pairs.specs.Width.{Triple, IsDeclared, IsOfPair, action_place, tr
 use Rattle.ipa_pairs.specs.Triples.{triple, IsOfLeft}
 use Rattle.ipa_pairs.specs.Examples.{IsReportedExample, IsReportedDrop}
 use Rattle.ipa_pairs.specs.Analyses.{triple_of}
-use Rattle.ipa_pairs.specs.Collecting.{ExtendsConflicts, ExtendsDrops, IsInConflict, IsUnsafe, BoundClause, bound_clause, bound_clause_of, bound_clause_key, IsDeclaredDrop, IsOfBound}
+use Rattle.ipa_pairs.specs.Analyses.{IsInConflict}
+use Rattle.ipa_pairs.specs.Collecting.{ExtendsConflicts, ExtendsDrops, IsUnsafe, BoundClause, bound_clause, bound_clause_of, bound_clause_key, IsDeclaredDrop, IsOfBound}
 use Rattle.ipa_pairs.specs.declared.analysis.Conflict.{Conflict as Example}
 use Rattle.ipa_pairs.specs.declared.analysis.UnsafeDrop.{UnsafeDrop}
 use Rattle.ipa_pairs.proofs.OrderLemmas.{IsSplit, IsOfPairBelow, IsOfLeftBelow, IsBelow, IsOfBoundBelow, IsDropBelow, split_pair, split_left, split_all, split_bound, split_drops, pair_below, below_pair, left_below, below_left, all_below, below_all, bound_below, below_bound, drops_below, below_drops}

@@ -12,7 +12,7 @@ use Rattle.ipa_spec.specs.declared.clauses.Clause.{Clause}
 use Rattle.ipa_spec.specs.declared.clauses.Literal.{Literal}
 use Rattle.ipa_spec.specs.declared.operations.Action.{Action}
 use Rattle.ipa_logic.specs.declared.facts.Fact.{Fact}
-use Rattle.ipa_cases.specs.Cases.{ConflictOn}
+use Rattle.ipa_reduction.specs.Cases.{ConflictOn}
 use Rattle.ipa_pairs.specs.Examples.{IsFirstExampleOn, hidden_facts}
 use Rattle.ipa_pairs.specs.Openness.{case_of, IsOverCase, IsOpen, HasNoStates, AreFirstStates}
 use Rattle.ipa_pairs.specs.declared.analysis.Conflict.{Conflict as Example}

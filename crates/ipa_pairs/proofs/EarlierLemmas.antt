@@ -12,7 +12,7 @@ use Rattle.std.specs.declared.cmp.Ordering.TheVariants.{Less}
 use Rattle.std.proofs.lemmas.Bool.{cases_Bool, cases_lt}
 use Rattle.std.proofs.lemmas.List.{length-map}
 use Rattle.std.proofs.lemmas.Option.{same_Some, slice_get-get_or, slice_get_within}
-use Rattle.ipa_spec.specs.declared.predicates.Predicate.{Predicate}
+use Rattle.ipa_spec.specs.declared.specification.Specification.{Specification}
 use Rattle.ipa_spec.specs.declared.clauses.Literal.{Literal}
 use Rattle.ipa_sat.specs.Formula.{IsBefore, value}
 use Rattle.ipa_logic.specs.Facts.{Universe, IsState, fact_cmp, has}
@@ -88,29 +88,29 @@ module _ {X : Type 0} (c : X → X → Ordering) (order : IsTotalOrder c) where
       let rest : xs ≡ ys = same-rising xs ys (Rises-tail c x xs h) (Rises-tail c y ys k) (behind-first x y xs ys first h to) (behind-first y x ys xs (sym first) k back) in
       λ i. first i ∷ rest i
 
-module _ (ps : List Predicate) (universe : Universe) (values : List ℕ) (literals : List Literal) where
+module _ (s : Specification) (universe : Universe) (values : List ℕ) (literals : List Literal) where
   -- the truth of a fact has a place of its own
-  truth-at : (t : Fact → Bool) (f : Fact) (h : IsListed (facts_over ps universe) f) → value (truths ps universe values literals t) (length (filter is_of_fact literals) + h.place) ≡ t f
+  truth-at : (t : Fact → Bool) (f : Fact) (h : IsListed (facts_over s.predicates universe) f) → value (truths s universe values literals t) (length (filter is_of_fact literals) + h.place) ≡ t f
   truth-at t f h =
-      let front : List Bool = map (literal_true ps t values) (filter is_of_fact literals) in
-      let there : slice_get (truths ps universe values literals t) (length front + h.place) ≡ Some (t f)
-      = get-right front (map t (facts_over ps universe)) h.place ∙ get-map t (facts_over ps universe) h.place f h.there in
-      let within : length front + h.place < length (truths ps universe values literals t) = slice_get_within (truths ps universe values literals t) (length front + h.place) (t f) there in
-      ap (λ (n : ℕ). value (truths ps universe values literals t) (n + h.place)) (sym (length-map (filter is_of_fact literals) (literal_true ps t values)))
-      ∙ same_Some (value (truths ps universe values literals t) (length front + h.place)) (t f) (sym (slice_get-get_or (truths ps universe values literals t) (length front + h.place) false within) ∙ there)
+      let front : List Bool = map (literal_true s t values) (filter is_of_fact literals) in
+      let there : slice_get (truths s universe values literals t) (length front + h.place) ≡ Some (t f)
+      = get-right front (map t (facts_over s.predicates universe)) h.place ∙ get-map t (facts_over s.predicates universe) h.place f h.there in
+      let within : length front + h.place < length (truths s universe values literals t) = slice_get_within (truths s universe values literals t) (length front + h.place) (t f) there in
+      ap (λ (n : ℕ). value (truths s universe values literals t) (n + h.place)) (sym (length-map (filter is_of_fact literals) (literal_true s t values)))
+      ∙ same_Some (value (truths s universe values literals t) (length front + h.place)) (t f) (sym (slice_get-get_or (truths s universe values literals t) (length front + h.place) false within) ∙ there)
 
   -- a fact of the one state is one of the other
-  moved : AreShort ps → (one other : List Fact) → IsState ps universe one → ((v : ℕ) → value (truths ps universe values literals (has one)) v ≡ value (truths ps universe values literals (has other)) v)
+  moved : AreShort s.predicates → (one other : List Fact) → IsState s universe one → ((v : ℕ) → value (truths s universe values literals (has one)) v ≡ value (truths s universe values literals (has other)) v)
       → (f : Fact) → IsListed one f → IsListed other f
   moved short one other is same f l =
       let there : has one f ≡ true = has-Listed one f l in
-      let listed : IsListed (facts_over ps universe) f = fact-facts_over ps universe f short (is.facts f there) in
+      let listed : IsListed (facts_over s.predicates universe) f = fact-facts_over s universe f short (is.facts f there) in
       Listed-has other f (sym (truth-at (has other) f listed) ∙ (sym (same (length (filter is_of_fact literals) + listed.place)) ∙ (truth-at (has one) f listed ∙ there)))
 
   -- two states of which none is earlier are the same
-  pub same-state : AreShort ps → (one other : List Fact) → IsState ps universe one → IsState ps universe other
-      → (IsBefore (truths ps universe values literals (has one)) (truths ps universe values literals (has other)) → ⊥)
-      → (IsBefore (truths ps universe values literals (has other)) (truths ps universe values literals (has one)) → ⊥) → one ≡ other
+  pub same-state : AreShort s.predicates → (one other : List Fact) → IsState s universe one → IsState s universe other
+      → (IsBefore (truths s universe values literals (has one)) (truths s universe values literals (has other)) → ⊥)
+      → (IsBefore (truths s universe values literals (has other)) (truths s universe values literals (has one)) → ⊥) → one ≡ other
   same-state short one other is are before behind =
-      let same = same-values (truths ps universe values literals (has one)) (truths ps universe values literals (has other)) before behind in
+      let same = same-values (truths s universe values literals (has one)) (truths s universe values literals (has other)) before behind in
       same-rising fact_cmp fact_cmp_total one other is.rising are.rising (moved short one other is same) (moved short other one are (λ v. sym (same v)))

@@ -7,14 +7,13 @@
 use Rattle.std.proofs.Common.{◌≡◌, ◌↔◌, ℕ, Bool, true, false, ◌||◌, cond, List, ◌++◌, map, Option, None, Some, subst}
 use Rattle.std.specs.Prelude.{Result, IfOk, MatchOption}
 use Rattle.std.proofs.lemmas.Result.{IfOk-weaker}
-use Rattle.ipa_spec.specs.Actions.{effects_of, needs_of, sorts_of}
+use Rattle.ipa_spec.specs.Actions.{needs_of, sorts_of}
 use Rattle.ipa_spec.specs.Fits.{IsFit, LiteralFits}
 use Rattle.ipa_spec.specs.declared.specification.Specification.{Specification}
-use Rattle.ipa_spec.specs.declared.predicates.Predicate.{Predicate}
 use Rattle.ipa_spec.specs.declared.clauses.Literal.{Literal}
 use Rattle.ipa_spec.specs.declared.clauses.Literal.TheVariants.{Holds, Fails, Same, Differ}
 use Rattle.ipa_spec.specs.declared.operations.Action.{Action}
-use Rattle.ipa_logic.specs.Facts.{Universe, IsFact, has}
+use Rattle.ipa_logic.specs.Facts.{Universe, IsUniverse, IsFact, has}
 use Rattle.ipa_logic.specs.Truth.{IsOver, literal_true}
 use Rattle.ipa_logic.specs.Touches.{touch_of, touches_need, adds, removes}
 use Rattle.ipa_logic.specs.Conflicts.{StandsAfter}
@@ -22,7 +21,8 @@ use Rattle.ipa_logic.specs.FitLaws.{IsFact-fact_of}
 use Rattle.ipa_logic.specs.declared.facts.Fact.{Fact}
 use Rattle.ipa_logic.specs.declared.facts.Touch.{Touch}
 use Rattle.ipa_logic.specs.declared.facts.Touch.TheVariants as touch
-use Rattle.ipa_ground.specs.Enumeration.{facts_over, AreShort}
+use Rattle.ipa_ground.specs.Enumeration.{facts_over}
+use Rattle.ipa_ground.specs.InstanceLaws.{IsUniverse-any}
 use Rattle.ipa_ground.specs.FactsLaws.{facts_over-fact, fact-facts_over, AreShort-from_fit}
 use Rattle.ipa_models.specs.Models.{Meets, IsFirstMeeting}
 use Rattle.ipa_models.specs.declared.demands.Demand.{Demand}
@@ -32,24 +32,24 @@ use Rattle.ipa_pairs.specs.declared.asking.Asked.TheVariants as asked
 use Rattle.ipa_pairs.proofs.AskedLemmas.{each-append, each-map, list_all-each, answers-for, answers-need, answers-touch}
 
 -- what is decided is asked of no fact
-pub of-decided : (ps : List Predicate) (universe : Universe) (b : Bool) → IsOfFact ps universe (decided b)
-of-decided ps universe true = tt
-of-decided ps universe false = tt
+pub of-decided : (s : Specification) (universe : Universe) (b : Bool) → IsOfFact s universe (decided b)
+of-decided s universe true = tt
+of-decided s universe false = tt
 
 -- what is asked for a fitting literal is of a fact over the universe
-pub of-literal : (ps : List Predicate) (universe : Universe) (sorts values : List ℕ) (l : Literal) (holds : Bool) → LiteralFits ps sorts l → IsOver universe sorts values → IsOfFact ps universe (asked_for ps values l holds)
-of-literal ps universe sorts values (Holds a) holds fits over = IsFact-fact_of ps universe sorts values a fits over
-of-literal ps universe sorts values (Fails a) holds fits over = IsFact-fact_of ps universe sorts values a fits over
-of-literal ps universe sorts values (Same v w) holds fits over = of-decided ps universe _
-of-literal ps universe sorts values (Differ v w) holds fits over = of-decided ps universe _
+pub of-literal : (s : Specification) (universe : Universe) (sorts values : List ℕ) (l : Literal) (holds : Bool) → IsUniverse s universe → LiteralFits s sorts l → IsOver universe sorts values → IsOfFact s universe (asked_for s values l holds)
+of-literal s universe sorts values (Holds a) holds large fits over = IsFact-fact_of s universe sorts values a large fits over
+of-literal s universe sorts values (Fails a) holds large fits over = IsFact-fact_of s universe sorts values a large fits over
+of-literal s universe sorts values (Same v w) holds large fits over = of-decided s universe _
+of-literal s universe sorts values (Differ v w) holds large fits over = of-decided s universe _
 
 -- the predicates of a fit specification are short
 module _ (s : Specification) (fit : IsFit s) (universe : Universe) (action : Action) (args : List ℕ) where
   abbrev touched : Fact → Asked
-  touched f = asked_by_touch f (touch_of (effects_of s action) args f)
+  touched f = asked_by_touch f (touch_of s action args f)
 
   abbrev needed : Literal → Asked
-  needed l = asked_by_need s.predicates (effects_of s action) args l
+  needed l = asked_by_need s action args l
 
   -- to stand after the action is to answer what it asks
   pub stands-asked : (t : Fact → Bool) → AnswersEach t (asks_of_action s universe action args) ↔ StandsAfter s universe action args t
@@ -58,63 +58,63 @@ module _ (s : Specification) (fit : IsFit s) (universe : Universe) (action : Act
       from : AnswersEach t (asks_of_action s universe action args) → StandsAfter s universe action args t
       from h =
           let parts = (each-append (Answers t) (map touched (facts_over s.predicates universe)) (map needed (needs_of s action))).0 h in
-          let at : (f : Fact) → IsFact s.predicates universe f → (adds (effects_of s action) args f ≡ true → t f ≡ true) × (removes (effects_of s action) args f ≡ true → t f ≡ false)
-          = λ f is. let listed = fact-facts_over s.predicates universe f (AreShort-from_fit s fit) is in
-          (answers-touch t (effects_of s action) args f).0 ((each-map (Answers t) touched (facts_over s.predicates universe)).0 parts.0 listed.place f listed.there) in
+          let at : (f : Fact) → IsFact s universe f → (adds s action args f ≡ true → t f ≡ true) × (removes s action args f ≡ true → t f ≡ false)
+          = λ f is. let listed = fact-facts_over s universe f (AreShort-from_fit s fit) is in
+          (answers-touch t s action args f).0 ((each-map (Answers t) touched (facts_over s.predicates universe)).0 parts.0 listed.place f listed.there) in
           record {
             added = λ f is e. (at f is).0 e;
             removed = λ f is e. (at f is).1 e;
-            needed = (list_all-each (λ l. touches_need s.predicates (effects_of s action) args l || literal_true s.predicates t args l) (needs_of s action)).1
-                (λ k l e. (answers-need t s.predicates (effects_of s action) args l).0 ((each-map (Answers t) needed (needs_of s action)).0 parts.1 k l e));
+            needed = (list_all-each (λ l. touches_need s action args l || literal_true s t args l) (needs_of s action)).1
+                (λ k l e. (answers-need t s action args l).0 ((each-map (Answers t) needed (needs_of s action)).0 parts.1 k l e));
           }
 
       to : StandsAfter s universe action args t → AnswersEach t (asks_of_action s universe action args)
       to h = (each-append (Answers t) (map touched (facts_over s.predicates universe)) (map needed (needs_of s action))).1 (
         (each-map (Answers t) touched (facts_over s.predicates universe)).1
-            (λ k f e. let is = facts_over-fact s.predicates universe f (AreShort-from_fit s fit) (record { place = k; there = e }) in
-            (answers-touch t (effects_of s action) args f).1 (h.added f is, h.removed f is)),
+            (λ k f e. let is = facts_over-fact s universe f (AreShort-from_fit s fit) (record { place = k; there = e }) in
+            (answers-touch t s action args f).1 (h.added f is, h.removed f is)),
         (each-map (Answers t) needed (needs_of s action)).1
-            (λ k l e. (answers-need t s.predicates (effects_of s action) args l).1
-            ((list_all-each (λ l. touches_need s.predicates (effects_of s action) args l || literal_true s.predicates t args l) (needs_of s action)).0 h.needed k l e)),
+            (λ k l e. (answers-need t s action args l).1
+            ((list_all-each (λ l. touches_need s action args l || literal_true s t args l) (needs_of s action)).0 h.needed k l e)),
       )
 
-  module _ (values sorts : List ℕ) (l : Literal) (wanted : Option Bool) (fits : LiteralFits s.predicates sorts l) (over : IsOver universe sorts values) (over_args : IsOver universe (sorts_of s action) args) where
+  module _ (values sorts : List ℕ) (l : Literal) (wanted : Option Bool) (fits : LiteralFits s sorts l) (over : IsOver universe sorts values) (over_args : IsOver universe (sorts_of s action) args) where
     abbrev asks : List Asked
-    asks = asks_of_action s universe action args ++ asks_of_literal s.predicates values l wanted
+    asks = asks_of_action s universe action args ++ asks_of_literal s values l wanted
 
     -- what is asked is of facts over the universe
-    pub of-facts : AreOfFacts s.predicates universe asks
-    of-facts = (each-append (IsOfFact s.predicates universe) (asks_of_action s universe action args) (asks_of_literal s.predicates values l wanted)).1 (
-      (each-append (IsOfFact s.predicates universe) (map touched (facts_over s.predicates universe)) (map needed (needs_of s action))).1 (
-        (each-map (IsOfFact s.predicates universe) touched (facts_over s.predicates universe)).1
-            (λ k f e. of-touch f (touch_of (effects_of s action) args f) (facts_over-fact s.predicates universe f (AreShort-from_fit s fit) (record { place = k; there = e }))),
-        (each-map (IsOfFact s.predicates universe) needed (needs_of s action)).1
-            (λ k need e. of-need need (touches_need s.predicates (effects_of s action) args need) (fit.needs action k need e)),
+    pub of-facts : AreOfFacts s universe asks
+    of-facts = (each-append (IsOfFact s universe) (asks_of_action s universe action args) (asks_of_literal s values l wanted)).1 (
+      (each-append (IsOfFact s universe) (map touched (facts_over s.predicates universe)) (map needed (needs_of s action))).1 (
+        (each-map (IsOfFact s universe) touched (facts_over s.predicates universe)).1
+            (λ k f e. of-touch f (touch_of s action args f) (facts_over-fact s universe f (AreShort-from_fit s fit) (record { place = k; there = e }))),
+        (each-map (IsOfFact s universe) needed (needs_of s action)).1
+            (λ k need e. of-need need (touches_need s action args need) (fit.needs action k need e)),
       ),
       of-wanted wanted,
     )
       where
-        of-touch : (f : Fact) (touch : Touch) → IsFact s.predicates universe f → IsOfFact s.predicates universe (asked_by_touch f touch)
+        of-touch : (f : Fact) (touch : Touch) → IsFact s universe f → IsOfFact s universe (asked_by_touch f touch)
         of-touch f touch.Adds is = is
         of-touch f touch.Removes is = is
         of-touch f touch.Nothing is = tt
 
-        of-need : (need : Literal) (b : Bool) → LiteralFits s.predicates (sorts_of s action) need → IsOfFact s.predicates universe (cond b asked.Nothing (asked_for s.predicates args need true))
+        of-need : (need : Literal) (b : Bool) → LiteralFits s (sorts_of s action) need → IsOfFact s universe (cond b asked.Nothing (asked_for s args need true))
         of-need need true h = tt
-        of-need need false h = of-literal s.predicates universe (sorts_of s action) args need true h over_args
+        of-need need false h = of-literal s universe (sorts_of s action) args need true (IsUniverse-any s universe fit) h over_args
 
-        of-wanted : (w : Option Bool) → AreOfFacts s.predicates universe (asks_of_literal s.predicates values l w)
+        of-wanted : (w : Option Bool) → AreOfFacts s universe (asks_of_literal s values l w)
         of-wanted None = tt
-        of-wanted (Some holds) = (of-literal s.predicates universe sorts values l holds fits over, tt)
+        of-wanted (Some holds) = (of-literal s universe sorts values l holds (IsUniverse-any s universe fit) fits over, tt)
 
     -- the literal is as wanted where what is asked of it is answered
-    wanted-asked : (t : Fact → Bool) (w : Option Bool) → AnswersEach t (asks_of_literal s.predicates values l w) ↔ IsAsWanted s.predicates values l w t
+    wanted-asked : (t : Fact → Bool) (w : Option Bool) → AnswersEach t (asks_of_literal s values l w) ↔ IsAsWanted s values l w t
     wanted-asked t None = ((λ h. tt), (λ h. tt))
-    wanted-asked t (Some holds) = ((λ h. (answers-for t s.predicates values l holds).0 h.0), (λ h. ((answers-for t s.predicates values l holds).1 h, tt)))
+    wanted-asked t (Some holds) = ((λ h. (answers-for t s values l holds).0 h.0), (λ h. ((answers-for t s values l holds).1 h, tt)))
 
     -- a fitting state answers what is asked
     pub fitting-answers : (state : List Fact) → IsFitting s universe action args values l wanted state → AnswersEach (has state) asks
-    fitting-answers state h = (each-append (Answers (has state)) (asks_of_action s universe action args) (asks_of_literal s.predicates values l wanted)).1
+    fitting-answers state h = (each-append (Answers (has state)) (asks_of_action s universe action args) (asks_of_literal s values l wanted)).1
         ((stands-asked (has state)).1 h.stands, (wanted-asked (has state) wanted).1 h.literal)
 
     module _ (demands : List Demand) (gathered : IsGathered asks demands) where
@@ -123,7 +123,7 @@ module _ (s : Specification) (fit : IsFit s) (universe : Universe) (action : Act
 
       pub meets-fitting : (state : List Fact) → Meets s universe demands state → IsFitting s universe action args values l wanted state
       meets-fitting state h =
-          let parts = (each-append (Answers (has state)) (asks_of_action s universe action args) (asks_of_literal s.predicates values l wanted)).0 ((gathered.exactly (has state)).1 h.demanded) in
+          let parts = (each-append (Answers (has state)) (asks_of_action s universe action args) (asks_of_literal s values l wanted)).0 ((gathered.exactly (has state)).1 h.demanded) in
           record { is_state = h.state; keeps = h.keeps; stands = (stands-asked (has state)).0 parts.0; literal = (wanted-asked (has state) wanted).0 parts.1 }
 
       -- the first to meet the demands is the first that fits
@@ -135,8 +135,8 @@ module _ (s : Specification) (fit : IsFit s) (universe : Universe) (action : Act
 
 -- an answer from the first state that meets the demands
 pub first-answer : {E : Type 0} (m s : Specification) → m ≡ s → (fit : IsFit s) (universe : Universe) (action : Action) (args values sorts : List ℕ) (l : Literal) (wanted : Option Bool)
-    → LiteralFits s.predicates sorts l → IsOver universe sorts values → IsOver universe (sorts_of s action) args
-    → (demands slice : List Demand) → slice ≡ demands → IsGathered (asks_of_action s universe action args ++ asks_of_literal s.predicates values l wanted) demands → (literals : List Literal)
+    → LiteralFits s sorts l → IsOver universe sorts values → IsOver universe (sorts_of s action) args
+    → (demands slice : List Demand) → slice ≡ demands → IsGathered (asks_of_action s universe action args ++ asks_of_literal s values l wanted) demands → (literals : List Literal)
     → (r : Result (Option (List Fact)) E)
     → IfOk r (λ found. MatchOption found ((state : List Fact) → Meets m universe slice state → ⊥) (λ state. IsFirstMeeting m universe values literals slice state))
     → IfOk r (λ found. MatchOption found ((state : List Fact) → IsFitting s universe action args values l wanted state → ⊥) (λ state. IsFirstFitting s universe action args values literals l wanted state))

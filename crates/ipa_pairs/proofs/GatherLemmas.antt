@@ -21,7 +21,7 @@ use Rattle.ipa_pairs.proofs.AskedLemmas.{each-append}
 pub gathered-none : IsGathered [] []
 gathered-none = record {
   exactly = λ t. ((λ h. All-nil (λ (d : Demand). t d.fact ≡ d.holds)), (λ h. tt));
-  facts = λ ps universe h. All-nil (λ (d : Demand). IsFact ps universe d.fact);
+  facts = λ s universe h. All-nil (λ (d : Demand). IsFact s universe d.fact);
 }
 
 -- what holds of each, and of one more
@@ -38,7 +38,7 @@ all-push P xs x = (
 pub gathered-nothing : (asks : List Asked) (demands : List Demand) → IsGathered asks demands → IsGathered (asks ++ asked.Nothing ∷ []) demands
 gathered-nothing asks demands h = record {
   exactly = λ t. ((λ a. (h.exactly t).0 ((each-push (Answers t) asks asked.Nothing).0 a).0), (λ d. (each-push (Answers t) asks asked.Nothing).1 ((h.exactly t).1 d, tt)));
-  facts = λ ps universe a. h.facts ps universe ((each-push (IsOfFact ps universe) asks asked.Nothing).0 a).0;
+  facts = λ s universe a. h.facts s universe ((each-push (IsOfFact s universe) asks asked.Nothing).0 a).0;
 }
 
 -- one fact more is asked for
@@ -48,7 +48,7 @@ gathered-fact asks demands d h = record {
     (λ a. let r = (each-push (Answers t) asks (asked.OfFact d)).0 a in (all-push (λ (e : Demand). t e.fact ≡ e.holds) demands d).1 ((h.exactly t).0 r.0, r.1)),
     (λ a. let r = (all-push (λ (e : Demand). t e.fact ≡ e.holds) demands d).0 a in (each-push (Answers t) asks (asked.OfFact d)).1 ((h.exactly t).1 r.0, r.1)),
   );
-  facts = λ ps universe a. let r = (each-push (IsOfFact ps universe) asks (asked.OfFact d)).0 a in (all-push (λ (e : Demand). IsFact ps universe e.fact) demands d).1 (h.facts ps universe r.0, r.1);
+  facts = λ s universe a. let r = (each-push (IsOfFact s universe) asks (asked.OfFact d)).0 a in (all-push (λ (e : Demand). IsFact s universe e.fact) demands d).1 (h.facts s universe r.0, r.1);
 }
 
 -- what is impossible has no answer

@@ -7,7 +7,6 @@ use Rattle.std.proofs.Common.{◌≡◌, ℕ, Bool, true, false, not, ◌&&◌, 
 use Rattle.std.proofs.lemmas.Bool.{false≢true}
 use Rattle.std.proofs.lemmas.Map.Keys.{any_passes_from_place}
 use Rattle.std.proofs.lemmas.Option.{same_Some}
-use Rattle.ipa_spec.specs.Actions.{effects_of}
 use Rattle.ipa_spec.specs.declared.specification.Specification.{Specification}
 use Rattle.ipa_spec.specs.declared.clauses.Clause.{Clause}
 use Rattle.ipa_spec.specs.declared.clauses.Literal.{Literal}
@@ -52,7 +51,7 @@ module _ (s : Specification) (c : Clause) (case : Case) where
   lost l r m = is_lost s case.right case.right_args case.values (has l) (has r) m
 
   parts-of : (place : ℕ) (l r : List Fact) (h : IsConflictOf place l r) →
-      LossParts (literal_true s.predicates (has l) case.values h.lost) (makes_true s.predicates (effects_of s case.right) case.right_args case.values h.lost) (can_be_falsified s h.lost) (loses s.predicates h.lost) (literal_true s.predicates (has r) case.values h.lost)
+      LossParts (literal_true s (has l) case.values h.lost) (makes_true s case.right case.right_args case.values h.lost) (can_be_falsified s h.lost) (loses s h.lost) (literal_true s (has r) case.values h.lost)
   parts-of place l r h = loss-parts _ _ _ _ _ h.loss
 
   lost-of : (place : ℕ) (l r : List Fact) (h : IsConflictOf place l r) → can_be_lost s case h.lost ≡ true
@@ -71,17 +70,17 @@ module _ (s : Specification) (c : Clause) (case : Case) where
     some_lost = any_passes_from_place (can_be_lost s case) c.literals place h.lost h.lost_at (lost-of place l r h);
   }
 
-  as-wanted : (m : Literal) (t : Fact → Bool) → (loses s.predicates m ≡ true → literal_true s.predicates t case.values m ≡ false) → IsAsWanted s.predicates case.values m (wanted_of s.predicates m) t
-  as-wanted m t h = by (loses s.predicates m) h
+  as-wanted : (m : Literal) (t : Fact → Bool) → (loses s m ≡ true → literal_true s t case.values m ≡ false) → IsAsWanted s case.values m (wanted_of s m) t
+  as-wanted m t h = by (loses s m) h
     where
-      by : (b : Bool) → (b ≡ true → literal_true s.predicates t case.values m ≡ false) → IsAsWanted s.predicates case.values m (cond b (Some false) None) t
+      by : (b : Bool) → (b ≡ true → literal_true s t case.values m ≡ false) → IsAsWanted s case.values m (cond b (Some false) None) t
       by true h = h refl
       by false h = tt
 
-  wanted-from : (m : Literal) (t : Fact → Bool) → IsAsWanted s.predicates case.values m (wanted_of s.predicates m) t → loses s.predicates m ≡ true → literal_true s.predicates t case.values m ≡ false
-  wanted-from m t h = by (loses s.predicates m) h
+  wanted-from : (m : Literal) (t : Fact → Bool) → IsAsWanted s case.values m (wanted_of s m) t → loses s m ≡ true → literal_true s t case.values m ≡ false
+  wanted-from m t h = by (loses s m) h
     where
-      by : (b : Bool) → IsAsWanted s.predicates case.values m (cond b (Some false) None) t → b ≡ true → literal_true s.predicates t case.values m ≡ false
+      by : (b : Bool) → IsAsWanted s case.values m (cond b (Some false) None) t → b ≡ true → literal_true s t case.values m ≡ false
       by true h e = h
       by false h e = absurd (false≢true e)
 
@@ -89,7 +88,7 @@ module _ (s : Specification) (c : Clause) (case : Case) where
   pub loss-from : (place : ℕ) (l r : List Fact) (m : Literal) → slice_get c.literals place ≡ Some m → IsConflictOf place l r → IsLossIn s case m l r
   loss-from place l r m e h = subst (λ (x : Literal). IsLossIn s case x l r) (same_Some h.lost m (sym h.lost_at ∙ e)) loss
     where
-      p : LossParts (literal_true s.predicates (has l) case.values h.lost) (makes_true s.predicates (effects_of s case.right) case.right_args case.values h.lost) (can_be_falsified s h.lost) (loses s.predicates h.lost) (literal_true s.predicates (has r) case.values h.lost)
+      p : LossParts (literal_true s (has l) case.values h.lost) (makes_true s case.right case.right_args case.values h.lost) (can_be_falsified s h.lost) (loses s h.lost) (literal_true s (has r) case.values h.lost)
       p = parts-of place l r h
 
       loss : IsLossIn s case h.lost l r
@@ -102,6 +101,7 @@ module _ (s : Specification) (c : Clause) (case : Case) where
   -- an open case and a loss make a conflict
   pub conflict-from : (place : ℕ) (l r : List Fact) (m : Literal) → slice_get c.literals place ≡ Some m → IsOverCase s c case → IsOpen s case c.literals → IsLossIn s case m l r → IsConflictOf place l r
   conflict-from place l r m e over open_case h = record {
+    sizes = over.sizes;
     left_arguments = over.left;
     right_arguments = over.right;
     clause_values = over.values;
@@ -120,8 +120,8 @@ module _ (s : Specification) (c : Clause) (case : Case) where
     lost_at = e;
     loss = parts-loss _ _ _ _ _ (record {
       holds = h.left.literal;
-      spares = (lost-parts (makes_true s.predicates (effects_of s case.right) case.right_args case.values m) (can_be_falsified s m) h.can_be_lost).0;
-      falsifies = (lost-parts (makes_true s.predicates (effects_of s case.right) case.right_args case.values m) (can_be_falsified s m) h.can_be_lost).1;
+      spares = (lost-parts (makes_true s case.right case.right_args case.values m) (can_be_falsified s m) h.can_be_lost).0;
+      falsifies = (lost-parts (makes_true s case.right case.right_args case.values m) (can_be_falsified s m) h.can_be_lost).1;
       after = wanted-from m (has r) h.right.literal;
     });
   }

@@ -3,6 +3,9 @@
 --   one-report, one-drop-report   there is one list of reported examples, and one of reported drops
 --   one-wide                      there is one first triple that is too wide, with its count
 use Rattle.std.proofs.Common.{◌≡◌, ℕ, List, refl, sym, ap, ◌∙◌, subst, Some, slice_get}
+use Rattle.std.specs.Ordering.{nat_cmp}
+use Rattle.std.specs.Cmp.Lexicographic.{slice_cmp}
+use Rattle.std.specs.declared.cmp.Ordering.{Ordering}
 use Rattle.std.proofs.lemmas.Cmp.{on_total, nat_list_cmp_total}
 use Rattle.std.proofs.lemmas.List.Elements.{recursion_from_All}
 use Rattle.std.proofs.lemmas.Option.{same_Some}
@@ -15,10 +18,10 @@ use Rattle.ipa_logic.specs.Conflicts.{Conflict}
 use Rattle.ipa_logic.specs.Acceptance.{DropBreaks}
 use Rattle.ipa_ground.specs.Enumeration.{AreShort, IsListed}
 use Rattle.ipa_ground.specs.ListLaws.{each_listed}
-use Rattle.ipa_cases.specs.Cases.{ConflictOn, DropBreaksOn}
+use Rattle.ipa_reduction.specs.Cases.{ConflictOn, DropBreaksOn}
 use Rattle.ipa_pairs.specs.Width.{Triple, IsDeclared, IsTooWide, IsFirstTooWide, triple_key, pattern_count}
 use Rattle.ipa_pairs.specs.Examples.{IsReportedExample, IsReportedDrop}
-use Rattle.ipa_pairs.specs.Analyses.{AreReported, AreReportedDrops, triple_of, drop_key, example_cmp, drop_cmp}
+use Rattle.ipa_pairs.specs.Analyses.{AreReported, AreReportedDrops, triple_of, drop_key, drop_cmp}
 use Rattle.ipa_pairs.specs.Collecting.{bound_clause_of}
 use Rattle.ipa_pairs.specs.declared.analysis.Conflict.{Conflict as Example}
 use Rattle.ipa_pairs.specs.declared.analysis.UnsafeDrop.{UnsafeDrop}
@@ -26,6 +29,10 @@ use Rattle.ipa_pairs.proofs.EarlierLemmas.{same-rising}
 use Rattle.ipa_pairs.proofs.OneExampleLemmas.{same-pattern, reported-as, one-example}
 use Rattle.ipa_pairs.proofs.OneDropLemmas.{drop-reported-as, one-drop}
 use Rattle.ipa_pairs.proofs.OrderLemmas.{same_action}
+
+-- examples are ordered by left, right and clause
+abbrev example_cmp : Specification → Example → Example → Ordering
+example_cmp s d e = slice_cmp nat_cmp (triple_key s (triple_of d)) (triple_key s (triple_of e))
 
 module _ (s : Specification) (short : AreShort s.predicates) where
   -- two reported examples of a triple are the same

@@ -13,7 +13,7 @@ use Rattle.ipa_logic.specs.declared.facts.Fact.{Fact}
 use Rattle.ipa_ground.specs.Enumeration.{AreShort}
 use Rattle.ipa_ground.specs.Patterns.{IsPattern}
 use Rattle.ipa_ground.specs.PatternValues.{is_before}
-use Rattle.ipa_cases.specs.Cases.{drop_sorts, drop_universe, drop_args, drop_values, DropBreaksOn, IsDropBreakOn}
+use Rattle.ipa_reduction.specs.Cases.{drop_sorts, drop_universe, drop_args, drop_values, DropBreaksOn, IsDropBreakOn}
 use Rattle.ipa_pairs.specs.Examples.{IsDropExampleOn, IsEarlierBefore, IsReportedDrop}
 use Rattle.ipa_pairs.specs.Collecting.{BoundClause, bound_clause_of}
 use Rattle.ipa_pairs.specs.declared.analysis.UnsafeDrop.{UnsafeDrop}
@@ -72,6 +72,6 @@ one-drop s short t b c d e h k =
     (λ before. k.first_pattern h.classes h.is_pattern before (record { before = h.before; break = h.first.shows }))
     (λ behind. h.first_pattern k.classes k.is_pattern behind (record { before = k.before; break = k.first.shows })) in
     let other : IsFirstDropOn s t.bound b c h.classes k.before = subst (λ (p : List ℕ). IsFirstDropOn s t.bound b c p k.before) (sym same) k.first in
-    let state : h.before ≡ k.before = same-state s.predicates (drop_universe s t.bound c h.classes) (drop_values s t.bound c h.classes) c.literals short h.before k.before
+    let state : h.before ≡ k.before = same-state s (drop_universe s t.bound c h.classes) (drop_values s t.bound c h.classes) c.literals short h.before k.before
     h.first.shows.droppable.state other.shows.droppable.state (λ before. other.first h.before h.first.shows before) (λ behind. h.first.first k.before other.shows behind) in
     h.is ∙ ((λ i. drop_at s t c (same i) (state i)) ∙ sym k.is)

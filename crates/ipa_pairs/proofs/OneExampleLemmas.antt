@@ -22,7 +22,7 @@ use Rattle.ipa_logic.specs.declared.facts.Fact.{Fact}
 use Rattle.ipa_ground.specs.Enumeration.{AreShort}
 use Rattle.ipa_ground.specs.Patterns.{IsPattern}
 use Rattle.ipa_ground.specs.PatternValues.{is_before}
-use Rattle.ipa_cases.specs.Cases.{triple_sorts, triple_values, left_args, right_args, ConflictOn, IsConflictOn}
+use Rattle.ipa_reduction.specs.Cases.{triple_sorts, triple_values, left_args, right_args, ConflictOn, IsConflictOn}
 use Rattle.ipa_pairs.specs.Width.{Triple}
 use Rattle.ipa_pairs.specs.Examples.{IsEarlierState, IsExampleOn, IsReportedExample, hidden_facts}
 use Rattle.ipa_pairs.specs.Analyses.{triple_of}
@@ -58,14 +58,14 @@ module _ (s : Specification) (left right : Action) (c : Clause) (classes : List 
   mixed place l r m n h k =
       let one = loss-from s c here place l r h.lost h.lost_at h in
       let other = loss-from s c here place m n h.lost h.lost_at k in
-      conflict-from s c here place l n h.lost h.lost_at (record { left = h.left_arguments; right = h.right_arguments; values = h.clause_values }) (open-from s c here place l r h)
+      conflict-from s c here place l n h.lost h.lost_at (record { sizes = h.sizes; left = h.left_arguments; right = h.right_arguments; values = h.clause_values }) (open-from s c here place l r h)
       (record { can_be_lost = one.can_be_lost; left = one.left; right = other.right })
 
   same-states : AreShort s.predicates → (place : ℕ) (l r m n : List Fact) → IsFirstOn place l r → IsFirstOn place m n → (l ≡ m) × (r ≡ n)
   same-states short place l r m n h k = (
-    same-state s.predicates here.universe.sizes here.values c.literals short l m h.shows.left_state k.shows.left_state
+    same-state s here.universe.sizes here.values c.literals short l m h.shows.left_state k.shows.left_state
         (λ before. k.first_left l (mixed place l r m n h.shows k.shows) before) (λ behind. h.first_left m (mixed place m n l r k.shows h.shows) behind),
-    same-state s.predicates here.universe.sizes here.values c.literals short r n h.shows.right_state k.shows.right_state
+    same-state s here.universe.sizes here.values c.literals short r n h.shows.right_state k.shows.right_state
         (λ before. k.first_right r (mixed place m n l r k.shows h.shows) before) (λ behind. h.first_right n (mixed place l r m n h.shows k.shows) behind),
   )
 

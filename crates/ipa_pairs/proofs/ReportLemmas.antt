@@ -9,7 +9,7 @@ use Rattle.ipa_spec.specs.declared.clauses.Clause.{Clause}
 use Rattle.ipa_spec.specs.declared.operations.Action.{Action}
 use Rattle.ipa_ground.specs.Patterns.{IsPattern}
 use Rattle.ipa_ground.specs.declared.patterns.Pattern.{Pattern}
-use Rattle.ipa_cases.specs.Cases.{triple_sorts, ConflictOn, ConflictOnSome, drop_sorts, DropBreaksOn, DropBreaksOnSome}
+use Rattle.ipa_reduction.specs.Cases.{triple_sorts, ConflictOn, ConflictOnSome, drop_sorts, DropBreaksOn, DropBreaksOnSome}
 use Rattle.ipa_pairs.specs.Width.{Triple}
 use Rattle.ipa_pairs.specs.Analyses.{triple_of}
 use Rattle.ipa_pairs.specs.Examples.{IsFirstExampleOn, IsReportedExample, IsFirstDropExampleOn, IsReportedDrop}

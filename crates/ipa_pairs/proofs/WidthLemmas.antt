@@ -15,7 +15,8 @@ use Rattle.ipa_spec.specs.Actions.{IsAction}
 use Rattle.ipa_spec.specs.declared.specification.Specification.{Specification}
 use Rattle.ipa_spec.specs.declared.clauses.Clause.{Clause}
 use Rattle.ipa_spec.specs.declared.operations.Action.{Action}
-use Rattle.ipa_pairs.specs.Width.{Triple, IsDeclared, IsOfPair, IsNarrow, IsFirstTooWide, action_place, triple_key, is_live, pattern_count}
+use Rattle.ipa_pairs.specs.Width.{Triple, IsDeclared, IsOfPair, IsNarrow, IsFirstTooWide, action_place, triple_key, pattern_count}
+use Rattle.ipa_logic.specs.Conflicts.{is_live}
 use Rattle.ipa_pairs.specs.Triples.{triple, IsOfLeft, IsWideAt}
 use Rattle.ipa_pairs.proofs.OrderLemmas.{IsOfPairBelow, IsOfLeftBelow, IsBelow, not_both, is_less, same_action, before_by_left, before_by_right, before_by_clause, triple_is, left_of, right_of, clause_of}
 

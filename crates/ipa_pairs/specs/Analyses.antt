@@ -1,7 +1,12 @@
 -- What an analysis answers.
 --
+--   IsOneOf of xs t             one of the examples is of this case
+--   Collects .. InQuestion xs   the examples are those of the cases in question that are there: one for each, in order
+--                               of their keys
 --   triple_of e                 the triple that an example is of
---   AreReported s InQuestion es   the examples are those of the triples in question that are in conflict: one for each, in order
+--   IsInConflict s t            the triple is in conflict
+--   AreReported s InQuestion es   the examples are those of the triples in question that are in conflict: one for each,
+--                               in order
 --   AreReportedDrops s es       the examples are those of the drops that can break a clause: one for each, in order
 --   IsAnalysis s a              all of them, of a specification without a triple that is too wide
 --   IsPairAnalysis s left right es   the examples of one ordered pair
@@ -28,13 +33,26 @@ use Rattle.ipa_pairs.specs.declared.analysis.PairFault.TheVariants.{TooWide, NoM
 use Rattle.ipa_pairs.specs.declared.analysis.AcceptFault.{AcceptFault}
 use Rattle.ipa_pairs.specs.declared.analysis.AcceptFault.TheVariants as refused
 
+-- one of the examples is of this case
+pub record IsOneOf {X T : Type 0} (of : X → T) (xs : List X) (t : T) : Type 0 where
+  pub example : X
+  pub listed : IsListed xs example
+  pub is : of example ≡ t
+
+-- the examples are those of the cases in question that are there: one for each, in order of their keys
+pub record Collects {X T : Type 0} (of : X → T) (key : T → List ℕ) (IsExample : X → Type 0)
+    (IsThere InQuestion : T → Type 0) (xs : List X) : Type 0 where
+  pub each : All (λ x. IsExample x × InQuestion (of x)) xs
+  pub rising : IsStrictlySortedBy (λ x y. slice_cmp nat_cmp (key (of x)) (key (of y))) xs
+  pub complete : (t : T) → InQuestion t → IsThere t → IsOneOf of xs t
+
 -- the triple that the example is of
 abbrev pub triple_of : Example → Triple
 triple_of e = record { left = e.left; right = e.right; clause = e.clause }
 
--- examples are ordered by left, right and clause
-abbrev pub example_cmp : Specification → Example → Example → Ordering
-example_cmp s d e = slice_cmp nat_cmp (triple_key s (triple_of d)) (triple_key s (triple_of e))
+-- the triple is in conflict
+abbrev pub IsInConflict : Specification → Triple → Type 0
+IsInConflict s t = Conflict s t.left t.right t.clause
 
 -- unsafe drops are ordered by bound and clause
 abbrev pub drop_key : UnsafeDrop → List ℕ
@@ -43,17 +61,10 @@ drop_key e = e.bound ∷ e.clause ∷ []
 abbrev pub drop_cmp : UnsafeDrop → UnsafeDrop → Ordering
 drop_cmp d e = slice_cmp nat_cmp (drop_key d) (drop_key e)
 
--- one of the examples is of this triple
-pub record IsReportedIn (es : List Example) (t : Triple) : Type 0 where
-  pub example : Example
-  pub listed : IsListed es example
-  pub is : triple_of example ≡ t
-
--- the examples are those of the triples, of those in question, that are in conflict: one for each, ordered by left, right and clause
-pub record AreReported (s : Specification) (InQuestion : Triple → Type 0) (es : List Example) : Type 0 where
-  pub each : All (λ e. IsReportedExample s e × InQuestion (triple_of e)) es
-  pub rising : IsStrictlySortedBy (example_cmp s) es
-  pub complete : (t : Triple) → InQuestion t → Conflict s t.left t.right t.clause → IsReportedIn es t
+-- the examples are those of the triples, of those in question, that are in conflict: one for each, ordered by left,
+-- right and clause
+abbrev pub AreReported : Specification → (Triple → Type 0) → List Example → Type 0
+AreReported s InQuestion es = Collects triple_of (triple_key s) (IsReportedExample s) (IsInConflict s) InQuestion es
 
 -- one of the examples is of this bound and clause
 pub record IsDropReportedIn (es : List UnsafeDrop) (bound clause : ℕ) : Type 0 where
@@ -62,7 +73,8 @@ pub record IsDropReportedIn (es : List UnsafeDrop) (bound clause : ℕ) : Type 0
   pub bound_is : example.bound ≡ bound
   pub clause_is : example.clause ≡ clause
 
--- the examples are those of the bounds and clauses whose drop can break the clause: one for each, ordered by bound and clause
+-- the examples are those of the bounds and clauses whose drop can break the clause: one for each, ordered by bound and
+-- clause
 pub record AreReportedDrops (s : Specification) (es : List UnsafeDrop) : Type 0 where
   pub each : All (IsReportedDrop s) es
   pub rising : IsStrictlySortedBy drop_cmp es
@@ -81,7 +93,8 @@ pub record IsPairAnalysis (s : Specification) (left right : Action) (es : List E
 
 -- of the triples in question the first one that is too wide is named; want of memory is true of all
 abbrev pub IsPairFault : Specification → (Triple → Type 0) → PairFault → Type 0
-IsPairFault s InQuestion (TooWide left right clause count) = IsFirstTooWide s InQuestion (record { left = left; right = right; clause = clause }) count
+IsPairFault s InQuestion (TooWide left right clause count) =
+    IsFirstTooWide s InQuestion (record { left = left; right = right; clause = clause }) count
 IsPairFault s InQuestion NoMemory = Unit {0}
 
 -- the analysis found nothing
@@ -97,5 +110,6 @@ pub record IsRejected (s : Specification) (a : Analysis) : Type 0 where
 -- why a specification is not taken as accepted; want of memory is true of all
 abbrev pub IsAcceptFault : Specification → AcceptFault → Type 0
 IsAcceptFault s (refused.Rejected a) = IsRejected s a
-IsAcceptFault s (refused.TooWide left right clause count) = IsFirstTooWide s (IsDeclared s) (record { left = left; right = right; clause = clause }) count
+IsAcceptFault s (refused.TooWide left right clause count) =
+    IsFirstTooWide s (IsDeclared s) (record { left = left; right = right; clause = clause }) count
 IsAcceptFault s refused.NoMemory = Unit {0}

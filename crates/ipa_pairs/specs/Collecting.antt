@@ -1,52 +1,30 @@
 -- How the examples are collected: some cases after the others, in order.
 --
---   IsOneOf of xs t                one of the examples is of this case
---   Collects .. InQuestion xs      the examples are those of the cases in question that are there: one for each, in order of their keys
 --   Extends .. InQuestion old new  the list has grown by such examples
---   IsInConflict, ExtendsConflicts the same of triples in conflict
+--   ExtendsConflicts               the same of triples in conflict
 --   BoundClause                    a bound and the number of a clause
 --   IsDeclaredDrop, IsOfBound      the specification declares both; the bound is this one
 --   IsUnsafe, ExtendsDrops         the same of drops that can break a clause
 use Rattle.std.specs.Prelude.{◌≡◌, ℕ, ◌<◌, List, [], ◌∷◌, ◌++◌, length}
-use Rattle.std.specs.List.{All}
-use Rattle.std.specs.List.Sorted.{IsStrictlySortedBy}
-use Rattle.std.specs.Ordering.{nat_cmp}
-use Rattle.std.specs.Cmp.Lexicographic.{slice_cmp}
 use Rattle.ipa_spec.specs.declared.specification.Specification.{Specification}
-use Rattle.ipa_logic.specs.Conflicts.{Conflict}
 use Rattle.ipa_logic.specs.Acceptance.{DropBreaks}
-use Rattle.ipa_ground.specs.Enumeration.{IsListed}
 use Rattle.ipa_pairs.specs.Width.{Triple, triple_key}
 use Rattle.ipa_pairs.specs.Examples.{IsReportedExample, IsReportedDrop}
-use Rattle.ipa_pairs.specs.Analyses.{triple_of}
+use Rattle.ipa_pairs.specs.Analyses.{triple_of, IsInConflict, Collects}
 use Rattle.ipa_pairs.specs.declared.analysis.Conflict.{Conflict as Example}
 use Rattle.ipa_pairs.specs.declared.analysis.UnsafeDrop.{UnsafeDrop}
 
--- one of the examples is of this case
-pub record IsOneOf {X T : Type 0} (of : X → T) (xs : List X) (t : T) : Type 0 where
-  pub example : X
-  pub listed : IsListed xs example
-  pub is : of example ≡ t
-
--- the examples are those of the cases in question that are there: one for each, in order of their keys
-pub record Collects {X T : Type 0} (of : X → T) (key : T → List ℕ) (IsExample : X → Type 0) (IsThere InQuestion : T → Type 0) (xs : List X) : Type 0 where
-  pub each : All (λ x. IsExample x × InQuestion (of x)) xs
-  pub rising : IsStrictlySortedBy (λ x y. slice_cmp nat_cmp (key (of x)) (key (of y))) xs
-  pub complete : (t : T) → InQuestion t → IsThere t → IsOneOf of xs t
-
 -- the list has grown by the examples of the cases in question
-pub record Extends {X T : Type 0} (of : X → T) (key : T → List ℕ) (IsExample : X → Type 0) (IsThere InQuestion : T → Type 0) (old new : List X) : Type 0 where
+pub record Extends {X T : Type 0} (of : X → T) (key : T → List ℕ) (IsExample : X → Type 0)
+    (IsThere InQuestion : T → Type 0) (old new : List X) : Type 0 where
   pub found : List X
   pub grown : new ≡ old ++ found
   pub collects : Collects of key IsExample IsThere InQuestion found
 
--- the triple is in conflict
-abbrev pub IsInConflict : Specification → Triple → Type 0
-IsInConflict s t = Conflict s t.left t.right t.clause
-
 -- the list has grown by the examples of the triples in question
 abbrev pub ExtendsConflicts : Specification → (Triple → Type 0) → List Example → List Example → Type 0
-ExtendsConflicts s InQuestion old new = Extends triple_of (triple_key s) (IsReportedExample s) (IsInConflict s) InQuestion old new
+ExtendsConflicts s InQuestion old new =
+    Extends triple_of (triple_key s) (IsReportedExample s) (IsInConflict s) InQuestion old new
 
 -- a bound and the number of a clause
 pub record BoundClause : Type 0 where
@@ -81,4 +59,5 @@ pub record IsOfBound (s : Specification) (n : ℕ) (t : BoundClause) : Type 0 wh
 
 -- the list has grown by the examples of the drops in question
 abbrev pub ExtendsDrops : Specification → (BoundClause → Type 0) → List UnsafeDrop → List UnsafeDrop → Type 0
-ExtendsDrops s InQuestion old new = Extends bound_clause_of bound_clause_key (IsReportedDrop s) (IsUnsafe s) InQuestion old new
+ExtendsDrops s InQuestion old new =
+    Extends bound_clause_of bound_clause_key (IsReportedDrop s) (IsUnsafe s) InQuestion old new

@@ -1,7 +1,5 @@
--- Which triples are live, and which have too many patterns.
+-- Which live triples have too many patterns.
 --
---   can_break effects literals     one of the effects is of the kind that makes one of the literals false
---   is_live s left right c         each of the two actions has such an effect on the clause
 --   pattern_count s left right c   the number of the triple's patterns
 --   IsTooWide s left right c       a live triple with more than 30000 patterns
 --   action_place s action          the place of an action: operations first and then drops, each in declared order
@@ -9,30 +7,20 @@
 --   IsDeclared s t                 the specification declares them
 --   triple_key s t                 triples are ordered by left, right and clause
 --   IsOfPair s left right t        the triple is one of this ordered pair
---   IsFirstTooWide s InQuestion t count   of the triples in question, the first one that is too wide, and its number of patterns
+--   IsFirstTooWide s InQuestion t count   of the triples in question, the first one that is too wide, and its number of
+--                                  patterns
 --   IsNarrow s InQuestion          none of the triples in question is too wide
-use Rattle.std.specs.Prelude.{◌≡◌, ℕ, ◌+◌, ◌<◌, Bool, true, ◌&&◌, List, [], ◌∷◌, length, slice_get, Some}
-use Rattle.std.specs.List.{list_any}
+use Rattle.std.specs.Prelude.{◌≡◌, ℕ, ◌+◌, ◌<◌, Bool, true, List, [], ◌∷◌, length, slice_get, Some}
 use Rattle.std.specs.Ordering.{nat_cmp, is_lt}
 use Rattle.std.specs.Cmp.Lexicographic.{slice_cmp}
-use Rattle.ipa_spec.specs.Actions.{IsAction, effects_of}
+use Rattle.ipa_spec.specs.Actions.{IsAction}
 use Rattle.ipa_spec.specs.declared.specification.Specification.{Specification}
 use Rattle.ipa_spec.specs.declared.clauses.Clause.{Clause}
-use Rattle.ipa_spec.specs.declared.clauses.Literal.{Literal}
 use Rattle.ipa_spec.specs.declared.operations.Action.{Action}
 use Rattle.ipa_spec.specs.declared.operations.Action.TheVariants.{Op, Drop}
-use Rattle.ipa_spec.specs.declared.operations.Effect.{Effect}
-use Rattle.ipa_logic.specs.Conflicts.{can_falsify}
+use Rattle.ipa_logic.specs.Conflicts.{is_live}
 use Rattle.ipa_ground.specs.Patterns.{patterns}
-use Rattle.ipa_cases.specs.Cases.{triple_sorts}
-
--- one of the effects is, by its predicate and kind, one that makes one of the literals false
-abbrev pub can_break : List Effect → List Literal → Bool
-can_break effects literals = list_any (λ l. list_any (can_falsify l) effects) literals
-
--- each of the two actions has such an effect on the clause
-abbrev pub is_live : Specification → Action → Action → Clause → Bool
-is_live s left right c = can_break (effects_of s left) c.literals && can_break (effects_of s right) c.literals
+use Rattle.ipa_reduction.specs.Cases.{triple_sorts}
 
 -- the number of the patterns of the triple's variables
 abbrev pub pattern_count : Specification → Action → Action → Clause → ℕ

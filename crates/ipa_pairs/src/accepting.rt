@@ -8,7 +8,7 @@ ghost use Rattle.ipa_pairs.specs.Analyses.{IsAnalysis, IsAcceptFault, IsClean};
 
 use crate::analysing::analyse;
 use crate::analysis::{AcceptFault, Analysis, PairFault};
-use ipa_cases::laws::{conflicts_are_on_patterns, unsafe_drops_are_on_patterns};
+use ipa_reduction::laws::{conflicts_are_on_patterns, unsafe_drops_are_on_patterns};
 use ipa_spec::Spec;
 use std::alloc::{AllocError, Global};
 use std::marker::Model;

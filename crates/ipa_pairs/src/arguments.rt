@@ -6,6 +6,7 @@ ghost use Rattle.ipa_pairs.specs.Patterned.{classes_of};
 
 use crate::sorts::action_sorts;
 use ipa_ground::Pattern;
+use ipa_spec::laws::spec_is_fit;
 use ipa_spec::{Action, Spec};
 
 /// The number of an action's arguments.
@@ -13,7 +14,7 @@ pub(crate) fn sort_count(spec: &Spec, action: Action) -> u8
     ensures value { result ≡ length (sorts_of spec.now action) }
     ensures few { result ≤ 4 }
 {
-    let _faultless = spec.clauses();
+    spec_is_fit(spec);
     let sorts = action_sorts(spec, action);
     sorts.as_slice().len() as u8
 }

@@ -1,12 +1,9 @@
 //! What is asked of a state so that it can stand after an action, or before a drop.
-ghost use Rattle.std.specs.Prelude.{◌≡◌, ◌||◌, not, if◌then◌else◌};
-ghost use Rattle.ipa_spec.specs.Actions.{effects_of};
-ghost use Rattle.ipa_logic.specs.Truth.{same_value};
-ghost use Rattle.ipa_logic.specs.Touches.{makes_true, makes_false, touches_need, touch_of};
+ghost use Rattle.std.specs.Prelude.{◌≡◌, not, if◌then◌else◌};
+ghost use Rattle.ipa_logic.specs.Touches.{touches_need, touch_of};
 ghost use Rattle.ipa_pairs.specs.Asked.{of_fact, decided, asked_for, asked_by_touch, asked_by_need, asked_before, asked_after};
 
-use crate::touches::{makes_false, makes_true};
-use ipa_logic::{Fact, Touch, effect_on, element_of, fact_of};
+use ipa_logic::{Fact, Touch, effect_on, fact_of, has_same_value, makes_false, makes_true};
 use ipa_models::Demand;
 use ipa_spec::{Action, Literal, Spec};
 
@@ -23,19 +20,22 @@ pub(crate) enum Asked {
 
 /// What is asked so that the literal is true, or so that it is false.
 pub(crate) fn asked_for(spec: &Spec, values: &[u16; 4], literal: &Literal, holds: bool) -> Asked
-    ensures { result ≡ asked_for spec.now.predicates values.now literal.now holds }
+    ensures { result ≡ asked_for spec.now values.now literal.now holds }
 {
     match literal {
         Literal::Holds(atom) => of_fact(fact_of(spec, atom, values), holds),
         Literal::Fails(atom) => of_fact(fact_of(spec, atom, values), !holds),
-        Literal::Same(one, other) => decided_as(has_same_value(values, *one, *other), holds),
-        Literal::Differ(one, other) => decided_as(has_same_value(values, *one, *other), !holds),
+        Literal::Same(one, other) => decided_as(has_same_value(spec, values, *one, *other), holds),
+        Literal::Differ(one, other) => decided_as(
+            has_same_value(spec, values, *one, *other),
+            !holds,
+        ),
     }
 }
 
 /// What is asked of a fact in a state that the action can have left.
 pub(crate) fn asked_by_touch(spec: &Spec, action: Action, args: &[u16; 4], fact: &Fact) -> Asked
-    ensures { result ≡ asked_by_touch fact.now (touch_of (effects_of spec.now action) args.now fact.now) }
+    ensures { result ≡ asked_by_touch fact.now (touch_of spec.now action args.now fact.now) }
 {
     match effect_on(spec, action, args, fact) {
         Touch::Adds => of_fact(*fact, true),
@@ -46,7 +46,7 @@ pub(crate) fn asked_by_touch(spec: &Spec, action: Action, args: &[u16; 4], fact:
 
 /// What a need asks of the state after its action.
 pub(crate) fn asked_by_need(spec: &Spec, action: Action, args: &[u16; 4], need: &Literal) -> Asked
-    ensures { result ≡ asked_by_need spec.now.predicates (effects_of spec.now action) args.now need.now }
+    ensures { result ≡ asked_by_need spec.now action args.now need.now }
 {
     if touches_need(spec, action, args, need) {
         Asked::Nothing
@@ -63,7 +63,7 @@ pub(crate) fn asked_after(
     values: &[u16; 4],
     literal: &Literal,
 ) -> Asked
-    ensures { result ≡ asked_after spec.now.predicates (effects_of spec.now action) args.now values.now literal.now }
+    ensures { result ≡ asked_after spec.now action args.now values.now literal.now }
 {
     match literal {
         Literal::Holds(atom) => asked_before(
@@ -74,14 +74,14 @@ pub(crate) fn asked_after(
             false,
         ),
         Literal::Fails(atom) => asked_before(spec, action, args, fact_of(spec, atom, values), true),
-        Literal::Same(one, other) => decided(!has_same_value(values, *one, *other)),
-        Literal::Differ(one, other) => decided(has_same_value(values, *one, *other)),
+        Literal::Same(one, other) => decided(!has_same_value(spec, values, *one, *other)),
+        Literal::Differ(one, other) => decided(has_same_value(spec, values, *one, *other)),
     }
 }
 
 // What is asked of the fact before the action so that it is true after it, or so that it is not.
 fn asked_before(spec: &Spec, action: Action, args: &[u16; 4], fact: Fact, holds: bool) -> Asked
-    ensures { result ≡ asked_before fact (touch_of (effects_of spec.now action) args.now fact) holds }
+    ensures { result ≡ asked_before fact (touch_of spec.now action args.now fact) holds }
 {
     match effect_on(spec, action, args, &fact) {
         Touch::Adds => decided(holds),
@@ -117,14 +117,7 @@ fn decided_as(is: bool, holds: bool) -> Asked
 
 // Whether the effects of the action touch the fact of one of its needs.
 fn touches_need(spec: &Spec, action: Action, args: &[u16; 4], need: &Literal) -> bool
-    ensures { result ≡ touches_need spec.now.predicates (effects_of spec.now action) args.now need.now }
+    ensures { result ≡ touches_need spec.now action args.now need.now }
 {
     makes_true(spec, action, args, args, need) || makes_false(spec, action, args, args, need)
-}
-
-// Whether two variables have the same value.
-fn has_same_value(values: &[u16; 4], one: u8, other: u8) -> bool
-    ensures { result ≡ same_value values.now one other }
-{
-    element_of(values, one) == element_of(values, other)
 }

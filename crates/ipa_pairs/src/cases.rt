@@ -5,7 +5,7 @@ ghost use Rattle.ipa_logic.specs.Touches.{makes_true};
 ghost use Rattle.ipa_logic.specs.Conflicts.{can_be_falsified};
 ghost use Rattle.ipa_ground.specs.Enumeration.{IsListed};
 ghost use Rattle.ipa_ground.specs.Places.{AreSmall};
-ghost use Rattle.ipa_cases.specs.Cases.{triple_sorts, ConflictOn};
+ghost use Rattle.ipa_reduction.specs.Cases.{triple_sorts, ConflictOn};
 ghost use Rattle.ipa_pairs.specs.Analyses.{triple_of};
 ghost use Rattle.ipa_pairs.specs.Examples.{IsFirstExampleOn};
 ghost use Rattle.ipa_pairs.specs.Openness.{IsOpen, case_of, IsOverCase, can_be_lost, wanted_of, HasNoStates, AreFirstStates};
@@ -17,13 +17,14 @@ use crate::arguments::{args_from, sort_count};
 use crate::fitting::first_fitting;
 use crate::groundings::{Grounding, place_of};
 use crate::hiding::hidden_facts;
-use crate::touches::{
-    can_be_falsified, falsifies_some, is_undecided, loses, makes_true, makes_winner_true,
-};
-use ipa_cases::laws::patterns_of_triples_fit;
 use ipa_ground::Pattern;
-use ipa_logic::{State, Universe};
+use ipa_logic::{
+    State, Universe, can_be_falsified, falsifies_some, is_undecided, loses, makes_true,
+    makes_winner_true,
+};
 use ipa_models::Models;
+use ipa_reduction::laws::patterns_of_triples_fit;
+use ipa_spec::laws::spec_is_fit;
 use ipa_spec::{Action, Clause, List, Literal, Spec};
 use std::alloc::{AllocError, Global};
 
@@ -64,7 +65,7 @@ pub(crate) fn conflict_on<'a>(
         (ConflictOn spec.now left right clause.now (classes_of pattern.now) → ⊥)
         (λ e. IsFirstExampleOn spec.now clause.now (classes_of pattern.now) e × (triple_of e ≡ record { left = left; right = right; clause = number }))) }
 {
-    let _faultless = spec.clauses();
+    spec_is_fit(spec);
     let case = case_of(spec, left, right, number, clause, pattern);
     if !is_open(spec, &case, clause.literals.as_slice()) {
         return Ok(None);
@@ -110,7 +111,7 @@ fn case_of(
     ensures over { IsOverCase spec.now clause.now result }
     ensures small { AreSmall result.universe.sizes }
 {
-    let _faultless = spec.clauses();
+    spec_is_fit(spec);
     patterns_of_triples_fit();
     let of_left = sort_count(spec, left);
     let of_right = sort_count(spec, right);
@@ -154,7 +155,7 @@ fn can_be_lost(spec: &Spec, case: &Case, literal: &Literal) -> bool
 
 // What is wanted of the lost literal after right: where it loses, that it is false.
 fn wanted_of(spec: &Spec, literal: &Literal) -> Option<bool>
-    ensures { result ≡ wanted_of spec.now.predicates literal.now }
+    ensures { result ≡ wanted_of spec.now literal.now }
 {
     if loses(spec, literal) {
         Some(false)

@@ -1,12 +1,13 @@
 //! The search for a state in which a drop breaks a clause.
 //!
-//! The patterns of the dropped fact's places and the clause's variables are gone through in order.
-//! On a pattern, what the drop asks of a state is that it holds the fact, and that each literal of
+//! A drop none of whose effects can make a literal of the clause false breaks none. Of another, the
+//! patterns of the dropped fact's places and the clause's variables are gone through in order. Where
+//! the drop makes a literal of the instance false on a pattern, what the drop asks of a state is that it holds the fact, and that each literal of
 //! the instance is false after the drop.
 ghost use Rattle.std.specs.Prelude.{◌≡◌, ◌<◌, length, slice_get, Some, IfOk, MatchOption};
 ghost use Rattle.ipa_logic.specs.Acceptance.{DropBreaks};
 ghost use Rattle.ipa_ground.specs.Places.{AreSmall};
-ghost use Rattle.ipa_cases.specs.Cases.{drop_sorts, DropBreaksOn};
+ghost use Rattle.ipa_reduction.specs.Cases.{drop_sorts, DropBreaksOn};
 ghost use Rattle.ipa_pairs.specs.Examples.{IsReportedDrop, IsFirstDropExampleOn};
 ghost use Rattle.ipa_pairs.specs.Grounded.{AreOf};
 ghost use Rattle.ipa_pairs.specs.Openness.{drop_case_of, IsOverDropCase};
@@ -17,9 +18,12 @@ use crate::arguments::{args_from, sort_count};
 use crate::gathering::{asks_of_drop, demands_of};
 use crate::groundings::{Grounding, place_of};
 use crate::sorts::drop_sorts;
-use ipa_cases::laws::{patterns_of_drops_fit, unsafe_drops_are_on_patterns};
 use ipa_ground::{Pattern, Patterns};
-use ipa_logic::Universe;
+use ipa_logic::{Universe, can_break, falsifies_some};
+use ipa_reduction::laws::{
+    breaking_drops_falsify, patterns_of_drops_fit, unsafe_drops_are_on_patterns,
+};
+use ipa_spec::laws::spec_is_fit;
 use ipa_spec::{Action, Bound, Clause, List, Spec};
 use std::alloc::{AllocError, Global};
 
@@ -47,12 +51,17 @@ pub(crate) fn find_unsafe_drop<'a>(
         (DropBreaks spec.now bound number → ⊥)
         (λ e. IsReportedDrop spec.now e × ((e.bound ≡ bound) × (e.clause ≡ number)))) }
 {
+    spec_is_fit(spec);
     let Some(declared) = spec.bounds().get(bound as usize) else {
         unreachable!()
     };
     let Some(clause) = spec.clauses().get(number as usize) else {
         unreachable!()
     };
+    breaking_drops_falsify();
+    if !can_break(spec, Action::Drop(bound), clause) {
+        return Ok(None);
+    }
     patterns_of_drops_fit();
     unsafe_drops_are_on_patterns();
     let sorts = drop_sorts(spec, bound, clause);
@@ -89,9 +98,19 @@ fn drop_break_on<'a>(
         (DropBreaksOn spec.now bound declared.now clause.now (classes_of pattern.now) → ⊥)
         (λ e. IsFirstDropExampleOn spec.now declared.now clause.now (classes_of pattern.now) e × ((e.bound ≡ bound) × (e.clause ≡ number)))) }
 {
-    let _faultless = spec.clauses();
+    spec_is_fit(spec);
     let case = drop_case_of(spec, bound, number, clause, pattern);
     let literals = clause.literals.as_slice();
+    breaking_drops_falsify();
+    if !falsifies_some(
+        spec,
+        Action::Drop(bound),
+        &case.args,
+        &case.values,
+        literals,
+    ) {
+        return Ok(None);
+    }
     let asks = asks_of_drop(
         alloc,
         spec,
@@ -133,7 +152,7 @@ fn drop_case_of(spec: &Spec, bound: u8, number: u8, clause: &Clause, pattern: &P
     ensures over { IsOverDropCase spec.now bound clause.now result }
     ensures small { AreSmall result.universe.sizes }
 {
-    let _faultless = spec.clauses();
+    spec_is_fit(spec);
     patterns_of_drops_fit();
     let of_drop = sort_count(spec, Action::Drop(bound));
     DropCase {

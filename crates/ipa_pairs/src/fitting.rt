@@ -10,6 +10,7 @@ ghost use Rattle.ipa_pairs.specs.Asked.{IsFitting, IsFirstFitting};
 use crate::gathering::{asks_of_fitting, demands_of};
 use ipa_logic::State;
 use ipa_models::Models;
+use ipa_spec::laws::spec_is_fit;
 use ipa_spec::{Action, Clause, Literal, Spec};
 use std::alloc::{AllocError, Global};
 
@@ -36,7 +37,7 @@ pub(crate) fn first_fitting(
         ((state : Items TheFact) → IsFitting spec.now models.now.universe action args.now values.now literal.now wanted state → ⊥)
         (λ state. IsFirstFitting spec.now models.now.universe action args.now values.now clause.now.literals literal.now wanted state)) }
 {
-    let _faultless = spec.clauses();
+    spec_is_fit(spec);
     let asks = asks_of_fitting(
         alloc,
         spec,

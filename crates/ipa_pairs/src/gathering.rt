@@ -1,14 +1,12 @@
 //! From what is asked to demands, and from demands to the first state.
 ghost use Rattle.std.specs.Prelude.{◌≡◌, ◌++◌, Bool, map, IfOk, MatchOption};
-ghost use Rattle.ipa_spec.specs.Actions.{effects_of, needs_of};
+ghost use Rattle.ipa_spec.specs.Actions.{needs_of};
 ghost use Rattle.ipa_logic.specs.Touches.{touch_of};
 ghost use Rattle.ipa_logic.specs.declared.facts.Fact.{Fact as TheFact};
-ghost use Rattle.ipa_spec.specs.declared.operations.Action.TheVariants.{Drop};
-ghost use Rattle.ipa_logic.specs.Acceptance.{drop_fact};
 ghost use Rattle.ipa_pairs.specs.Asked.{AnswersEach, IsGathered, asked_by_touch, asked_by_need, asked_after, asks_of_literal, asks_of_drop};
 
 use crate::asking::{Asked, asked_after, asked_by_need, asked_by_touch, asked_for, of_fact};
-use ipa_logic::{Fact, drop_effect, fact_given};
+use ipa_logic::{Fact, drop_effect, fact_given, needs_of};
 use ipa_models::Demand;
 use ipa_spec::{Action, Bound, List, Literal, Spec};
 use std::alloc::{AllocError, Global};
@@ -21,7 +19,7 @@ fn asks_of_facts(
     action: Action,
     args: &[u16; 4],
 ) -> Result<Vec<Asked>, AllocError>
-    ensures { IfOk result (λ asks. asks.items ≡ map (λ f. asked_by_touch f (touch_of (effects_of spec.now action) args.now f)) facts.now) }
+    ensures { IfOk result (λ asks. asks.items ≡ map (λ f. asked_by_touch f (touch_of spec.now action args.now f)) facts.now) }
 {
     facts
         .iter()
@@ -36,20 +34,12 @@ fn asks_of_needs(
     action: Action,
     args: &[u16; 4],
 ) -> Result<Vec<Asked>, AllocError>
-    ensures { IfOk result (λ asks. asks.items ≡ map (asked_by_need spec.now.predicates (effects_of spec.now action) args.now) (needs_of spec.now action)) }
+    ensures { IfOk result (λ asks. asks.items ≡ map (asked_by_need spec.now action args.now) (needs_of spec.now action)) }
 {
-    match action {
-        Action::Op(number) => match spec.operations().get(number as usize) {
-            Some(operation) => operation
-                .needs
-                .as_slice()
-                .iter()
-                .map(|need| asked_by_need(spec, action, args, need))
-                .collect(alloc),
-            None => Ok(Vec::new(alloc)),
-        },
-        Action::Drop(_) => Ok(Vec::new(alloc)),
-    }
+    needs_of(spec, action)
+        .iter()
+        .map(|need| asked_by_need(spec, action, args, need))
+        .collect(alloc)
 }
 
 /// All that is asked of a state that the action can have left, in which the literal is as it is
@@ -65,8 +55,8 @@ pub(crate) fn asks_of_fitting(
     wanted: Option<bool>,
 ) -> Result<Vec<Asked>, AllocError>
     ensures { IfOk result (λ asks. asks.items ≡
-        (map (λ f. asked_by_touch f (touch_of (effects_of spec.now action) args.now f)) facts.now ++ map (asked_by_need spec.now.predicates (effects_of spec.now action) args.now) (needs_of spec.now action))
-        ++ asks_of_literal spec.now.predicates values.now literal.now wanted) }
+        (map (λ f. asked_by_touch f (touch_of spec.now action args.now f)) facts.now ++ map (asked_by_need spec.now action args.now) (needs_of spec.now action))
+        ++ asks_of_literal spec.now values.now literal.now wanted) }
 {
     let mut asks = asks_of_facts(alloc, spec, facts, action, args)?;
     let mut needs = asks_of_needs(alloc, spec, action, args)?;
@@ -88,9 +78,11 @@ pub(crate) fn asks_of_drop(
     literals: &[Literal],
 ) -> Result<Vec<Asked>, AllocError>
     ensures { IfOk result (λ asks. asks.items ≡
-        asks_of_drop spec.now.predicates (effects_of spec.now (Drop number)) (drop_fact spec.now.predicates bound.now args.now) args.now values.now literals.now) }
+        asks_of_drop spec.now number bound.now args.now values.now literals.now) }
 {
-    let mut asks = vec![in alloc; of_fact(fact_given(&drop_effect(spec, bound), args), true)]?;
+    let mut asks = vec![in alloc;
+        of_fact(fact_given(spec, &drop_effect(spec, bound), args), true),
+    ]?;
     let mut others = asks_of_literals(alloc, spec, Action::Drop(number), args, values, literals)?;
     asks.append(&mut others)?;
     Ok(asks)
@@ -105,7 +97,7 @@ fn asks_of_literals(
     values: &[u16; 4],
     literals: &[Literal],
 ) -> Result<Vec<Asked>, AllocError>
-    ensures { IfOk result (λ asks. asks.items ≡ map (asked_after spec.now.predicates (effects_of spec.now action) args.now values.now) literals.now) }
+    ensures { IfOk result (λ asks. asks.items ≡ map (asked_after spec.now action args.now values.now) literals.now) }
 {
     literals
         .iter()

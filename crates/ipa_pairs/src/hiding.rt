@@ -4,8 +4,7 @@ ghost use Rattle.ipa_logic.specs.Facts.{has};
 ghost use Rattle.ipa_pairs.specs.Examples.{fact_of_literal, is_hidden, hidden_fact, hidden_facts, with_fact};
 
 use crate::cases::Case;
-use crate::touches::makes_true;
-use ipa_logic::{Fact, fact_of};
+use ipa_logic::{Fact, fact_of, makes_true};
 use ipa_spec::{List, Literal, Spec};
 use std::alloc::{AllocError, Global};
 
@@ -63,7 +62,7 @@ fn is_hidden(spec: &Spec, case: &Case, literal: &Literal) -> bool
 
 // The fact of a fact literal.
 fn fact_of_literal(spec: &Spec, values: &[u16; 4], literal: &Literal) -> Option<Fact>
-    ensures { result ≡ fact_of_literal spec.now.predicates values.now literal.now }
+    ensures { result ≡ fact_of_literal spec.now values.now literal.now }
 {
     match literal {
         Literal::Holds(atom) => Some(fact_of(spec, atom, values)),

@@ -11,7 +11,7 @@ ghost use Rattle.ipa_pairs.specs.declared.analysis.Conflict.{Conflict as Example
 ghost use Rattle.ipa_pairs.specs.declared.analysis.UnsafeDrop.{UnsafeDrop};
 ghost use Rattle.ipa_pairs.specs.declared.analysis.Analysis.{Analysis};
 
-use ipa_cases::laws::{conflicts_are_on_patterns, unsafe_drops_are_on_patterns};
+use ipa_reduction::laws::{conflicts_are_on_patterns, unsafe_drops_are_on_patterns};
 
 /// There is at most one reported example of a triple, and of a bound and a clause, and so at most one
 /// analysis of a specification, and of an ordered pair of its actions.

@@ -20,7 +20,6 @@ mod groundings;
 mod hiding;
 mod laws;
 mod sorts;
-mod touches;
 mod triples;
 mod width;
 
@@ -28,6 +27,3 @@ pub use accepting::{Accepted, accept, accepted_actions_do_not_conflict};
 pub use analysing::{analyse, analyse_pair};
 pub use analysis::{AcceptFault, Analysis, Conflict, PairFault, UnsafeDrop};
 pub use laws::{one_analysis, one_refusal};
-
-#[cfg(test)]
-mod tests;

@@ -1,8 +1,9 @@
 //! The sorts of the variables of a triple, and of a drop and a clause.
 ghost use Rattle.std.specs.Prelude.{◌≡◌, ◌+◌, ◌≤◌, ◌<◌, [], ◌∷◌, ◌++◌, length, take};
 ghost use Rattle.ipa_spec.specs.Actions.{place_sorts, sorts_of, sorts_of_vars};
-ghost use Rattle.ipa_cases.specs.Cases.{triple_sorts, drop_sorts};
+ghost use Rattle.ipa_reduction.specs.Cases.{triple_sorts, drop_sorts};
 
+use ipa_spec::laws::spec_is_fit;
 use ipa_spec::{Action, Clause, Predicate, Spec, Var};
 use std::marker::Model;
 
@@ -69,7 +70,7 @@ impl Sorts {
         requires few { length self.old + length (place_sorts spec.now.predicates number) ≤ 12 }
         ensures { self.new ≡ self.old ++ place_sorts spec.now.predicates number }
     {
-        let _faultless = spec.clauses();
+        spec_is_fit(spec);
         match spec.predicates().get(number as usize) {
             Some(predicate) => self.push_places(predicate),
             None => (),

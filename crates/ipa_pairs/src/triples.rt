@@ -1,9 +1,9 @@
 //! The search for a conflict of two actions on a clause.
 //!
-//! The patterns of the triple's variables are gone through in order. On a pattern, tests that look
-//! at no state come first, and most patterns end there. Then each literal that can be lost is taken
-//! in clause order, and two states are sought for it, one that left can have left and one that
-//! right can have left. Neither depends on the other.
+//! A triple that is not live is in no conflict. Of one that is, the patterns of its variables are gone
+//! through in order. On a pattern, tests that look at no state come first, and most patterns end
+//! there. Then each literal that can be lost is taken in clause order, and two states are sought for
+//! it, one that left can have left and one that right can have left. Neither depends on the other.
 ghost use Rattle.std.specs.Prelude.{◌≡◌, ◌<◌, ℕ, length, List as Items, IfOk, MatchOption};
 ghost use Rattle.ipa_spec.specs.Actions.{IsAction};
 ghost use Rattle.ipa_logic.specs.Conflicts.{Conflict as InConflict};
@@ -15,8 +15,10 @@ use crate::analysis::Conflict;
 use crate::cases::conflict_on;
 use crate::groundings::Grounding;
 use crate::sorts::triple_sorts;
-use ipa_cases::laws::{conflicts_are_on_patterns, patterns_of_triples_fit};
 use ipa_ground::Patterns;
+use ipa_logic::is_live;
+use ipa_reduction::laws::{conflicts_are_live, conflicts_are_on_patterns, patterns_of_triples_fit};
+use ipa_spec::laws::spec_is_fit;
 use ipa_spec::{Action, List, Spec};
 use std::alloc::{AllocError, Global};
 
@@ -38,9 +40,14 @@ pub(crate) fn find_conflict<'a>(
         (InConflict spec.now left right number → ⊥)
         (λ e. IsReportedExample spec.now e × (triple_of e ≡ record { left = left; right = right; clause = number }))) }
 {
+    spec_is_fit(spec);
     let Some(clause) = spec.clauses().get(number as usize) else {
         unreachable!()
     };
+    conflicts_are_live();
+    if !is_live(spec, left, right, clause) {
+        return Ok(None);
+    }
     patterns_of_triples_fit();
     conflicts_are_on_patterns();
     let sorts = triple_sorts(spec, left, right, clause);

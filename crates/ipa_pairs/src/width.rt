@@ -5,11 +5,13 @@ ghost use Rattle.ipa_pairs.specs.Width.{IsTooWide, IsDeclared, IsOfPair, IsNarro
 ghost use Rattle.ipa_pairs.specs.Triples.{IsOfLeft, IsFirstWide, IsWideAt};
 ghost use Rattle.ipa_pairs.specs.declared.analysis.PairFault.TheVariants.{TooWide};
 
-use crate::actions::{action_at, action_count, clause_count, is_live};
+use crate::actions::{action_at, action_count, clause_count};
 use crate::analysis::PairFault;
 use crate::sorts::triple_sorts;
-use ipa_cases::laws::patterns_of_triples_fit;
 use ipa_ground::Patterns;
+use ipa_logic::is_live;
+use ipa_reduction::laws::patterns_of_triples_fit;
+use ipa_spec::laws::spec_is_fit;
 use ipa_spec::{Action, Clause, Spec};
 
 /// A live triple with more than 30000 patterns, and their number.
@@ -103,7 +105,7 @@ fn wide_count_on(
     if !is_live(spec, left, right, clause) {
         return None;
     }
-    let _faultless = spec.clauses();
+    spec_is_fit(spec);
     patterns_of_triples_fit();
     let sorts = triple_sorts(spec, left, right, clause);
     let count = Patterns::count(sorts.as_slice());

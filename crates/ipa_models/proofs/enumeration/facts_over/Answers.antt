@@ -1,17 +1,16 @@
 use Rattle.std.proofs.Common.{length, slice_get, arith, ap, refl, sym, ◌∙◌}
 use Rattle.std.proofs.lemmas.Option.{slice_get_read}
-use Rattle.ipa_spec.specs.FaultlessFits.{IsFit-from_faultless}
 use Rattle.ipa_models.proofs.ListingLemmas.{predicates-next}
 use Rattle.ipa_models.proofs.enumeration.facts_over.Goals as goal
 
 pub overflow_cast-first : goal.overflow_cast-first
 overflow_cast-first c =
-    let few = (IsFit-from_faultless _ c.clauses.ensures.faultless).predicate_count in
+    let few = c.spec_is_fit.ensures.fit.predicate_count in
     let same = ap length (c.as_slice-predicate-items.ensures ∙ c.predicates.ensures) in omega arith
 
 pub push_facts-requires-clause-short : goal.push_facts-requires-clause-short
 push_facts-requires-clause-short c =
-    (IsFit-from_faultless _ c.clauses.ensures.faultless).arities c.loop-number.number c.predicate-item.result
+    c.spec_is_fit.ensures.fit.arities c.loop-number.number c.predicate-item.result
     (ap (λ ps. slice_get ps c.loop-number.number) (sym (c.as_slice-predicate-items.ensures ∙ c.predicates.ensures))
     ∙ slice_get_read c.as_slice-predicate-items.result.now (length c.as_slice-predicate-items.result.now) c.loop-number.number c.predicate-item.result refl (omega arith) c.predicate-item.is)
 

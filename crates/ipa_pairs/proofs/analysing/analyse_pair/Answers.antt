@@ -1,7 +1,9 @@
 use Rattle.std.proofs.Common.{subst}
-use Rattle.ipa_pairs.specs.Width.{IsOfPair}
+use Rattle.ipa_pairs.specs.Width.{IsOfPair, triple_key}
+use Rattle.ipa_pairs.specs.Examples.{IsReportedExample}
+use Rattle.ipa_pairs.specs.Analyses.{triple_of, IsInConflict}
 use Rattle.ipa_pairs.specs.Collecting.{ExtendsConflicts}
-use Rattle.ipa_pairs.proofs.CollectLemmas.{AreReported-from_extends}
+use Rattle.ipa_pairs.proofs.CollectLemmas.{collects-from_extends}
 use Rattle.ipa_pairs.proofs.analysing.analyse_pair.Goals as goal
 
 pub returns-clause-conflicts : goal.returns-clause-conflicts
@@ -10,6 +12,6 @@ returns-clause-conflicts c =
     let pair = IsOfPair s c.args.left c.args.right in
     record {
       narrow = c.in_default.ensures;
-      conflicts = AreReported-from_extends s pair c.push_conflicts_of_pair.new.conflicts
+      conflicts = collects-from_extends triple_of (triple_key s) (IsReportedExample s) (IsInConflict s) pair c.push_conflicts_of_pair.new.conflicts
           (subst (λ old. ExtendsConflicts s pair old c.push_conflicts_of_pair.new.conflicts) c.new-conflicts.ensures c.in_ok-push_conflicts_of_pair.ensures.extends);
     }

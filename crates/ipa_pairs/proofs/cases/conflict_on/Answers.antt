@@ -1,7 +1,6 @@
 use Rattle.std.proofs.Common.{◌≡◌, ℕ, ◌<◌, List, length, Some, refl, ap, ◌∙◌, subst, arith, slice_get}
 use Rattle.std.specs.Prelude.{slice_index_or}
 use Rattle.std.proofs.lemmas.Option.{MatchOption-at_none, MatchOption-at_some, slice_get-get_or}
-use Rattle.ipa_spec.specs.FaultlessFits.{IsFit-from_faultless}
 use Rattle.ipa_spec.specs.declared.clauses.Literal.{Literal}
 use Rattle.ipa_pairs.specs.Examples.{hidden_facts}
 use Rattle.ipa_pairs.specs.Openness.{IsOpen}
@@ -24,7 +23,7 @@ losing_states-requires-clause-literal c = record { place = c.loop-place.place; t
 
 pub overflow_cast-result : goal.overflow_cast-result
 overflow_cast-result c =
-    let few = (IsFit-from_faultless c.args.spec.now c.clauses-faultless.ensures.faultless).literal_count c.args.number c.args.clause.now c.requires.declared in
+    let few = c.spec_is_fit.ensures.fit.literal_count c.args.number c.args.clause.now c.requires.declared in
     omega (arith, few, c.loop-place-test.true, ap length c.as_slice-literal-items.ensures)
 
 pub returns-in-Some-2 : goal.returns-in-Some-2

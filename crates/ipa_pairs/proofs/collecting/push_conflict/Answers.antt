@@ -5,8 +5,7 @@ use Rattle.ipa_logic.specs.Conflicts.{Conflict}
 use Rattle.ipa_pairs.specs.Width.{triple_key}
 use Rattle.ipa_pairs.specs.Triples.{triple}
 use Rattle.ipa_pairs.specs.Examples.{IsReportedExample}
-use Rattle.ipa_pairs.specs.Analyses.{triple_of}
-use Rattle.ipa_pairs.specs.Collecting.{IsInConflict}
+use Rattle.ipa_pairs.specs.Analyses.{triple_of, IsInConflict}
 use Rattle.ipa_pairs.specs.declared.analysis.Conflict.{Conflict as Example}
 use Rattle.ipa_pairs.proofs.CollectLemmas.{extends-nothing, extends-one}
 use Rattle.ipa_pairs.proofs.collecting.push_conflict.Goals as goal

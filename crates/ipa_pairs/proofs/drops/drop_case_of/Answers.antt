@@ -1,7 +1,6 @@
 use Rattle.std.proofs.Common.{refl, sym, subst, arith}
-use Rattle.ipa_spec.specs.FaultlessFits.{IsFit-from_faultless}
 use Rattle.ipa_ground.specs.Places.{AreSmall}
-use Rattle.ipa_cases.specs.Cases.{drop_sorts}
+use Rattle.ipa_reduction.specs.Cases.{drop_sorts}
 use Rattle.ipa_pairs.specs.Openness.{IsOverDropCase}
 use Rattle.ipa_pairs.specs.Patterned.{classes_of}
 use Rattle.ipa_pairs.proofs.CaseLemmas.{drop-case-is, over-drop-case, pattern-len, pattern-sizes}
@@ -9,19 +8,19 @@ use Rattle.ipa_pairs.proofs.drops.drop_case_of.Goals as goal
 
 pub args_from-requires-clause-len : goal.args_from-requires-clause-len
 args_from-requires-clause-len c =
-    let few = c.patterns_of_drops_fit.ensures.few c.args.spec.now c.args.bound c.args.number c.args.clause.now (IsFit-from_faultless c.args.spec.now c.clauses-faultless.ensures.faultless) c.requires.declared in
+    let few = c.patterns_of_drops_fit.ensures.few c.args.spec.now c.args.bound c.args.number c.args.clause.now c.spec_is_fit.ensures.fit c.requires.declared in
     omega (arith, few, pattern-len (drop_sorts c.args.spec.now c.args.bound c.args.clause.now) c.args.pattern.now c.requires.pattern)
 
 pub args_from-requires-2-clause-len : goal.args_from-requires-2-clause-len
 args_from-requires-2-clause-len c =
-    let few = c.patterns_of_drops_fit.ensures.few c.args.spec.now c.args.bound c.args.number c.args.clause.now (IsFit-from_faultless c.args.spec.now c.clauses-faultless.ensures.faultless) c.requires.declared in
+    let few = c.patterns_of_drops_fit.ensures.few c.args.spec.now c.args.bound c.args.number c.args.clause.now c.spec_is_fit.ensures.fit c.requires.declared in
     omega (arith, few, pattern-len (drop_sorts c.args.spec.now c.args.bound c.args.clause.now) c.args.pattern.now c.requires.pattern)
 
 pub overflow_cast-len : goal.overflow_cast-len
-overflow_cast-len c = omega (arith, c.len.ensures, (IsFit-from_faultless c.args.spec.now c.clauses-faultless.ensures.faultless).variable_count c.args.number c.args.clause.now c.requires.declared)
+overflow_cast-len c = omega (arith, c.len.ensures, c.spec_is_fit.ensures.fit.variable_count c.args.number c.args.clause.now c.requires.declared)
 
 pub args_from-requires-2-clause-few : goal.args_from-requires-2-clause-few
-args_from-requires-2-clause-few c = omega (arith, c.len.ensures, (IsFit-from_faultless c.args.spec.now c.clauses-faultless.ensures.faultless).variable_count c.args.number c.args.clause.now c.requires.declared)
+args_from-requires-2-clause-few c = omega (arith, c.len.ensures, c.spec_is_fit.ensures.fit.variable_count c.args.number c.args.clause.now c.requires.declared)
 
 pub returns-clause-over : goal.returns-clause-over
 returns-clause-over c =
@@ -31,10 +30,10 @@ returns-clause-over c =
     c.args_from.result c.args_from-2.result c.args_from.ensures c.args_from-2.ensures _ refl))
     (over-drop-case c.args.spec.now c.args.bound c.args.clause.now (classes_of c.args.pattern.now)
     (c.patterns_of_drops_fit.ensures.arguments c.args.spec.now c.args.bound c.args.number c.args.clause.now (classes_of c.args.pattern.now)
-    (IsFit-from_faultless c.args.spec.now c.clauses-faultless.ensures.faultless) c.requires.declared c.requires.pattern.is_pattern))
+    c.spec_is_fit.ensures.fit c.requires.declared c.requires.pattern.is_pattern))
 
 pub returns-clause-small : goal.returns-clause-small
 returns-clause-small c =
     subst AreSmall (sym (pattern-sizes (drop_sorts c.args.spec.now c.args.bound c.args.clause.now) c.args.pattern.now c.requires.pattern))
     (c.patterns_of_drops_fit.ensures.small c.args.spec.now c.args.bound c.args.number c.args.clause.now (classes_of c.args.pattern.now)
-    (IsFit-from_faultless c.args.spec.now c.clauses-faultless.ensures.faultless) c.requires.declared c.requires.pattern.is_pattern)
+    c.spec_is_fit.ensures.fit c.requires.declared c.requires.pattern.is_pattern)

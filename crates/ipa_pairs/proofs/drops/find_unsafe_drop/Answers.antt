@@ -1,22 +1,31 @@
 use Rattle.std.proofs.Common.{◌≡◌, Some, sym, ◌∙◌, subst, slice_get, rules}
+use Rattle.std.proofs.lemmas.Bool.{false≢true}
 use Rattle.std.proofs.lemmas.Option.{MatchOption-at_none, MatchOption-at_some}
-use Rattle.ipa_spec.specs.FaultlessFits.{IsFit-from_faultless}
 use Rattle.ipa_ground.specs.Patterns.{AreSorts}
-use Rattle.ipa_cases.specs.Cases.{drop_sorts, DropBreaksOn}
+use Rattle.ipa_reduction.specs.Cases.{drop_sorts, DropBreaksOn}
 use Rattle.ipa_pairs.proofs.TriedLemmas.{Tried, tried-here, tried-next}
 use Rattle.ipa_pairs.proofs.ReportLemmas.{reported-drop, no-break}
 use Rattle.ipa_pairs.proofs.drops.find_unsafe_drop.Goals as goal
 
+pub returns-then-not-can_break : goal.returns-then-not-can_break
+returns-then-not-can_break c =
+    let declared : slice_get c.args.spec.now.clauses c.args.number ≡ Some c.in-Some-get.clause.now = search rules in
+    record {
+      of = c.requires.of;
+      found = λ breaks. false≢true (sym c.if-not-can_break.true ∙ (c.can_break.ensures
+          ∙ c.breaking_drops_falsify.ensures.clauses c.args.spec.now c.args.bound c.args.number c.in-Some-get.clause.now declared breaks));
+    }
+
 pub drop_sorts-sorts-requires : goal.drop_sorts-sorts-requires
 drop_sorts-sorts-requires c =
     let declared : slice_get c.args.spec.now.clauses c.args.number ≡ Some c.in-Some-get.clause.now = search rules in
-    record { few = c.patterns_of_drops_fit.ensures.few c.args.spec.now c.args.bound c.args.number c.in-Some-get.clause.now (IsFit-from_faultless c.args.spec.now c.clauses.ensures.faultless) declared }
+    record { few = c.patterns_of_drops_fit.ensures.few c.args.spec.now c.args.bound c.args.number c.in-Some-get.clause.now c.spec_is_fit.ensures.fit declared }
 
 pub new-patterns-requires-clause-sorts : goal.new-patterns-requires-clause-sorts
 new-patterns-requires-clause-sorts c =
     let declared : slice_get c.args.spec.now.clauses c.args.number ≡ Some c.in-Some-get.clause.now = search rules in
     subst AreSorts (sym (c.as_slice.ensures ∙ c.drop_sorts-sorts.ensures))
-    (c.patterns_of_drops_fit.ensures.sorts c.args.spec.now c.args.bound c.args.number c.in-Some-get.clause.now (IsFit-from_faultless c.args.spec.now c.clauses.ensures.faultless) declared)
+    (c.patterns_of_drops_fit.ensures.sorts c.args.spec.now c.args.bound c.args.number c.in-Some-get.clause.now c.spec_is_fit.ensures.fit declared)
 
 pub drop_break_on-requires-clause-pattern : goal.drop_break_on-requires-clause-pattern
 drop_break_on-requires-clause-pattern c =
@@ -56,5 +65,5 @@ returns c =
     record {
       of = c.loop-pattern.invariant.1;
       found = λ breaks. no-break c.args.spec.now c.args.bound c.in-Some.declared.now c.in-Some-get.clause.now c.loop-pattern.patterns c.loop-pattern.invariant.0 c.in_default-next.ensures.0
-          (c.unsafe_drops_are_on_patterns.ensures.some c.args.spec.now c.args.bound c.args.number c.in-Some.declared.now c.in-Some-get.clause.now (IsFit-from_faultless c.args.spec.now c.clauses.ensures.faultless) bound declared breaks);
+          (c.unsafe_drops_are_on_patterns.ensures.some c.args.spec.now c.args.bound c.args.number c.in-Some.declared.now c.in-Some-get.clause.now c.spec_is_fit.ensures.fit bound declared breaks);
     }

@@ -1,5 +1,5 @@
 use Rattle.std.proofs.Common.{length}
-use Rattle.ipa_cases.specs.Cases.{drop_sorts, DropBreaksOn}
+use Rattle.ipa_reduction.specs.Cases.{drop_sorts, DropBreaksOn}
 use Rattle.ipa_pairs.proofs.TriedLemmas.{Tried}
 use Rattle.ipa_pairs.specs.Grounded.{AreOf}
 use Rattle.ipa_pairs.proofs.drops.find_unsafe_drop.Given as goal

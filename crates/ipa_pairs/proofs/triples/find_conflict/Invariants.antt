@@ -1,5 +1,5 @@
 use Rattle.std.proofs.Common.{length}
-use Rattle.ipa_cases.specs.Cases.{triple_sorts, ConflictOn}
+use Rattle.ipa_reduction.specs.Cases.{triple_sorts, ConflictOn}
 use Rattle.ipa_pairs.proofs.TriedLemmas.{Tried}
 use Rattle.ipa_pairs.specs.Grounded.{AreOf}
 use Rattle.ipa_pairs.proofs.triples.find_conflict.Given as goal

@@ -1,18 +1,17 @@
 use Rattle.std.proofs.Common.{◌≡◌, ◌∙◌, sym, subst, ℕ, List, length, ap, rules, true}
-use Rattle.ipa_spec.specs.FaultlessFits.{IsFit-from_faultless}
 use Rattle.ipa_ground.specs.Patterns.{AreSorts, patterns}
-use Rattle.ipa_pairs.specs.Width.{is_live}
+use Rattle.ipa_logic.specs.Conflicts.{is_live}
 use Rattle.ipa_pairs.proofs.WidthLemmas.{wide_at}
 use Rattle.ipa_pairs.proofs.width.wide_count_on.Goals as goal
 
 pub triple_sorts-sorts-requires : goal.triple_sorts-sorts-requires
 triple_sorts-sorts-requires c =
-    let fit = IsFit-from_faultless c.args.spec.now c.clauses-faultless.ensures.faultless in
+    let fit = c.spec_is_fit.ensures.fit in
     record { few = c.patterns_of_triples_fit.ensures.few c.args.spec.now c.args.left c.args.right c.args.number c.args.clause.now fit c.requires }
 
 pub count-count-requires-clause-sorts : goal.count-count-requires-clause-sorts
 count-count-requires-clause-sorts c =
-    let fit = IsFit-from_faultless c.args.spec.now c.clauses-faultless.ensures.faultless in
+    let fit = c.spec_is_fit.ensures.fit in
     subst AreSorts (sym (c.as_slice.ensures ∙ c.triple_sorts-sorts.ensures))
     (c.patterns_of_triples_fit.ensures.sorts c.args.spec.now c.args.left c.args.right c.args.number c.args.clause.now fit c.requires)
 

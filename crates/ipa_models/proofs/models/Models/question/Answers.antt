@@ -10,10 +10,10 @@ use Rattle.ipa_models.proofs.models.Models.question.Goals as goal
 pub tie_literals-requires-clause-fits : goal.tie_literals-requires-clause-fits
 tie_literals-requires-clause-fits c =
     let listed : IsListed c.self.inside.spec.now.clauses c.args.clause.now = subst (λ (x : Setting). IsListed x.spec.clauses c.args.clause.now) (sym c.self.view_is) c.requires.declared in
-    ClauseFits-declared _ listed.place c.args.clause.now c.self.invariant.numbered.faultless listed.there
+    ClauseFits-declared _ listed.place c.args.clause.now c.self.invariant.numbered.fit listed.there
 
 pub ask-requires-clause-facts : goal.ask-requires-clause-facts
-ask-requires-clause-facts c = subst (λ (x : Setting). AreFacts x.spec.predicates x.universe c.args.demands.now) (sym c.self.view_is) c.requires.facts
+ask-requires-clause-facts c = subst (λ (x : Setting). AreFacts x.spec x.universe c.args.demands.now) (sym c.self.view_is) c.requires.facts
 
 pub returns : goal.returns
 returns c =

@@ -2,7 +2,6 @@ use Rattle.std.proofs.Common.{◌≡◌, Some, length, take, ap, arith, rules, �
 use Rattle.std.specs.Option.{option_map_or}
 use Rattle.ipa_spec.specs.Actions.{place_sorts}
 use Rattle.ipa_spec.specs.declared.predicates.Predicate.{Predicate}
-use Rattle.ipa_spec.specs.FaultlessFits.{IsFit-from_faultless}
 use Rattle.ipa_pairs.proofs.sorts.Sorts.push_predicate.Goals as goal
 
 -- the sorts of a predicate that is declared
@@ -11,7 +10,7 @@ places ps n p e = ap (λ o. option_map_or (λ (p : Predicate). take p.arity p.so
 
 pub push_places-requires-clause-short : goal.push_places-requires-clause-short
 push_places-requires-clause-short c =
-    let fit = IsFit-from_faultless c.args.spec.now c.clauses-faultless.ensures.faultless in
+    let fit = c.spec_is_fit.ensures.fit in
     let declared : slice_get c.args.spec.now.predicates c.args.number ≡ Some c.in-Some.predicate.now = search rules in
     fit.arities c.args.number c.in-Some.predicate.now declared
 

@@ -1,5 +1,0 @@
-use Rattle.ipa_cases.proofs.DropsLemmas.{breaks_on_some, breaks_from}
-use Rattle.ipa_cases.proofs.laws.unsafe_drops_are_on_patterns.Goals as goal
-
-pub returns : goal.returns
-returns c = record { some = breaks_on_some; breaks = breaks_from }
