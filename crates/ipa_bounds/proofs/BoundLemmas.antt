@@ -6,7 +6,8 @@ use Rattle.std.specs.Bool.{MatchBool}
 use Rattle.std.specs.Option.{MatchOption, is_some, is_none}
 use Rattle.ipa_spec.specs.declared.bounds.Bound.{Bound}
 use Rattle.ipa_logic.specs.Groups.{key_of, group_of, Within}
-use Rattle.ipa_logic.specs.DueDrops.{IsWithin, IsFirstOver, IsLeastOver, IsGreatest, IsDueDrop}
+use Rattle.ipa_logic.specs.DueDrops.{IsWithin, IsFirstOver, IsLeastOver, IsPicked, IsDueDrop}
+use Rattle.ipa_logic.specs.declared.facts.Age.{Age}
 use Rattle.ipa_logic.specs.declared.facts.Fact.{Fact}
 use Rattle.ipa_bounds.specs.Choices.{IsChosen, IsOverAt, IsWithinAt}
 
@@ -44,12 +45,12 @@ module _ (bounds : List Bound) (state : List Fact) where
   within-is (Some n) h = (λ e. cc, λ w. absurd (let few : length (group_of h.bound h.key state) ≤ h.bound.most = w.groups n h.bound h.key h.declared in omega (arith, h.over)))
 
   -- the drop of the first bound that is over
-  pub due-chosen : (n : ℕ) (b : Bound) (f : Fact) → IsFirstOver bounds state n → Some b ≡ slice_get bounds n → IsChosen b state f → IsDueDrop bounds state n f
-  due-chosen n b f first e chosen = record {
+  pub due-chosen : (ages : Fact → Age) (n : ℕ) (b : Bound) (f : Fact) → IsFirstOver bounds state n → Some b ≡ slice_get bounds n → IsChosen b state ages f → IsDueDrop bounds state ages n f
+  due-chosen ages n b f first e chosen = record {
     bound = b;
     key = chosen.key;
     group = record { first = first; declared = sym e; least = chosen.group };
-    removed = chosen.greatest;
+    removed = chosen.picked;
   }
 
   -- the first bound that is over is declared, and not kept
@@ -63,8 +64,8 @@ module _ (bounds : List Bound) (state : List Fact) where
       let few : length (group_of first.bound first.key state) ≤ first.bound.most = (subst (λ (x : Bound). IsWithin x state) same within).groups first.key in
       omega (arith, first.over)
 
--- the greatest of the group of least key
-pub chosen-greatest : (b : Bound) (state : List Fact) (least : Fact) (found : Option Fact) → IsLeastOver b (key_of b least) state
-    → MatchOption found (group_of b (key_of b least) state ≡ []) (IsGreatest (group_of b (key_of b least) state)) → MatchOption found (IsWithin b state) (IsChosen b state)
-chosen-greatest b state least None over h = absurd (let none : length (group_of b (key_of b least) state) ≡ 0 = ap length h in omega (arith, over.over))
-chosen-greatest b state least (Some f) over h = record { key = key_of b least; group = over; greatest = h }
+-- the fact that the bound picks of the group of least key
+pub chosen-picked : (b : Bound) (state : List Fact) (ages : Fact → Age) (least : Fact) (found : Option Fact) → IsLeastOver b (key_of b least) state
+    → MatchOption found (group_of b (key_of b least) state ≡ []) (IsPicked b.pick ages (group_of b (key_of b least) state)) → MatchOption found (IsWithin b state) (IsChosen b state ages)
+chosen-picked b state ages least None over h = absurd (let none : length (group_of b (key_of b least) state) ≡ 0 = ap length h in omega (arith, over.over))
+chosen-picked b state ages least (Some f) over h = record { key = key_of b least; group = over; picked = h }

@@ -14,7 +14,7 @@ use Rattle.ipa_logic.specs.Views.{is_left}
 use Rattle.ipa_logic.specs.Groups.{key_of, is_in_group, group_of}
 use Rattle.ipa_logic.specs.DueDrops.{Exceeds, IsWithin, IsLeastOver}
 use Rattle.ipa_logic.specs.declared.facts.Fact.{Fact}
-use Rattle.ipa_bounds.specs.Walks.{facts_after}
+use Rattle.ipa_logic.specs.Walks.{facts_after}
 use Rattle.ipa_bounds.specs.Choices.{comes_before, first_of, LeadsExcess, IsUpTo, IsOverBest, Improves}
 use Rattle.ipa_bounds.proofs.GroupLemmas.{group-walk}
 

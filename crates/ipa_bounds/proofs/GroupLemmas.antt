@@ -6,9 +6,9 @@ use Rattle.ipa_logic.specs.Facts.{fact_cmp, IsRising}
 use Rattle.ipa_logic.specs.Views.{next_fact, is_left}
 use Rattle.ipa_logic.specs.Groups.{is_in_group, group_of}
 use Rattle.ipa_logic.specs.declared.facts.Fact.{Fact}
-use Rattle.ipa_bounds.specs.Walks.{facts_after}
-use Rattle.ipa_bounds.proofs.FilterLemmas.{filter-filter, filter-behind}
-use Rattle.ipa_bounds.proofs.WalkLemmas.{walk-some, filter-find_none}
+use Rattle.ipa_logic.specs.Walks.{facts_after}
+use Rattle.ipa_logic.specs.FilterLaws.{filter-filter, filter-behind}
+use Rattle.ipa_logic.specs.WalkLaws.{walk-some, filter-find_none}
 
 -- a fact of a group is of the bound's predicate
 of-predicate : (a b : Bool) → (a && b) ≡ true → (a && true) ≡ true

@@ -1,10 +1,6 @@
-pub mod FilterLemmas
-pub mod WalkLemmas
 pub mod GroupLemmas
 pub mod ChoiceLemmas
-pub mod GreatestLemmas
+pub mod PickLemmas
 pub mod BoundLemmas
-pub mod NextLemmas
-pub mod AppliedLemmas
 pub mod RunLemmas
 pub mod MemberLemmas

@@ -10,8 +10,8 @@ use Rattle.ipa_logic.specs.Facts.{fact_cmp, IsRising}
 use Rattle.ipa_logic.specs.Groups.{is_in_group, group_of}
 use Rattle.ipa_logic.specs.Views.{next_fact, is_left}
 use Rattle.ipa_logic.specs.declared.facts.Fact.{Fact}
-use Rattle.ipa_bounds.proofs.FilterLemmas.{find-both, find-turned}
-use Rattle.ipa_bounds.proofs.WalkLemmas.{walk-some, filter-find_none}
+use Rattle.ipa_logic.specs.FilterLaws.{find-both, find-turned}
+use Rattle.ipa_logic.specs.WalkLaws.{walk-some, filter-find_none}
 use Rattle.ipa_bounds.proofs.ChoiceLemmas.{key-in_group}
 
 -- facts of one predicate are compared by their elements

@@ -17,9 +17,9 @@ use Rattle.ipa_logic.specs.Views.{is_left}
 use Rattle.ipa_logic.specs.Groups.{key_of, group_of}
 use Rattle.ipa_logic.specs.DueDrops.{IsWithin, IsLeastOver}
 use Rattle.ipa_logic.specs.declared.facts.Fact.{Fact}
-use Rattle.ipa_bounds.specs.Walks.{facts_after}
+use Rattle.ipa_logic.specs.Walks.{facts_after}
 use Rattle.ipa_bounds.specs.Runs.{has_key, with_key, count_before, IsHighest, IsRun}
-use Rattle.ipa_bounds.proofs.FilterLemmas.{filter-both}
+use Rattle.ipa_logic.specs.FilterLaws.{filter-both}
 
 module _ (b : Bound) where
   -- a fact with a key after another has not that one

@@ -6,7 +6,7 @@
 --   IsUpTo b best key           the key of the best so far does not come after this key
 --   IsOverBest b state best     the group of the best so far, if there is one, is over the bound
 --   Improves b state best f new   the best so far after one more fact
---   IsChosen b state f          the fact is the greatest of the group of least key over the bound
+--   IsChosen b state ages f     the fact is the one that the bound picks of the group of least key over it
 --   IsOverAt bounds state n     a group exceeds bound n
 --   IsWithinAt bounds state n   none does
 use Rattle.std.specs.Prelude.{◌≡◌, ℕ, Bool, true, false, List, slice_get, Option, Some, None}
@@ -15,7 +15,8 @@ use Rattle.std.specs.Cmp.Lexicographic.{slice_cmp}
 use Rattle.ipa_spec.specs.declared.bounds.Bound.{Bound}
 use Rattle.ipa_logic.specs.Groups.{key_of, group_of}
 use Rattle.ipa_logic.specs.Views.{next_fact}
-use Rattle.ipa_logic.specs.DueDrops.{Exceeds, IsWithin, IsLeastOver, IsGreatest}
+use Rattle.ipa_logic.specs.DueDrops.{Exceeds, IsWithin, IsLeastOver, IsPicked}
+use Rattle.ipa_logic.specs.declared.facts.Age.{Age}
 use Rattle.ipa_logic.specs.declared.facts.Fact.{Fact}
 
 -- the key of the fact comes before that of the best so far, if there is one
@@ -48,11 +49,11 @@ pub record Improves (b : Bound) (state : List Fact) (best : Option Fact) (f : Fa
   pub own : LeadsExcess b state f → IsUpTo b new (key_of b f)
   pub others : (key : List ℕ) → IsUpTo b best key → IsUpTo b new key
 
--- the fact is the greatest of the group of least key over the bound
-pub record IsChosen (b : Bound) (state : List Fact) (f : Fact) : Type 0 where
+-- the fact is the one that the bound picks of the group of least key over it
+pub record IsChosen (b : Bound) (state : List Fact) (ages : Fact → Age) (f : Fact) : Type 0 where
   pub key : List ℕ
   pub group : IsLeastOver b key state
-  pub greatest : IsGreatest (group_of b key state) f
+  pub picked : IsPicked b.pick ages (group_of b key state) f
 
 -- a group exceeds bound n
 pub record IsOverAt (bounds : List Bound) (state : List Fact) (n : ℕ) : Type 0 where

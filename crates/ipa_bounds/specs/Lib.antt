@@ -1,4 +1,3 @@
-pub mod Walks
 pub mod Choices
-pub mod Applied
+pub mod Picks
 pub mod Runs

@@ -2,9 +2,11 @@
 --
 --   has_key b key f              the fact has this key
 --   with_key b key s             the facts that have it
---   count_before b last count f  the number of facts before f that have its key, where the last of them and the number with its key are given
+--   count_before b last count f  the number of facts before f that have its key, where the last of them and the number
+--                                with its key are given
 --   IsHighest b seen last        no fact seen has a key after that of the last
---   IsCounted b seen last count over   no key seen is over the bound, and the last one has this count; or `over` has the least key that is
+--   IsCounted b seen last count over   no key seen is over the bound, and the last one has this count; or `over` has the
+--                                least key that is
 --   IsRun b seen last count over what is known after these facts
 --   IsFound b state found        the least key over the bound is found, unless the keys fall
 use Rattle.std.specs.Prelude.{◌≡◌, ℕ, ◌<◌, ◌≤◌, Bool, true, false, List, [], length, filter, Option, Some, None, MatchOption}
@@ -28,7 +30,8 @@ with_key b key s = filter (has_key b key) s
 -- the number of facts before f that have its key, or `None` where its key is below that of the last
 abbrev pub count_before : Bound → Option Fact → ℕ → Fact → Option ℕ
 count_before b None count f = Some 0
-count_before b (Some last) count f = match_ordering (slice_cmp nat_cmp (key_of b f) (key_of b last)) None (Some count) (Some 0)
+count_before b (Some last) count f =
+    match_ordering (slice_cmp nat_cmp (key_of b f) (key_of b last)) None (Some count) (Some 0)
 
 -- no fact seen has a key after that of the last
 pub record IsHighest (b : Bound) (seen : List Fact) (last : Fact) : Type 0 where
@@ -42,7 +45,8 @@ pub record IsWithinSeen (b : Bound) (seen : List Fact) (last : Fact) (count : �
 -- the fact has the least key seen that is over the bound, and the last fact no lesser one
 pub record IsOverSeen (b : Bound) (seen : List Fact) (last over : Fact) : Type 0 where
   pub exceeds : b.most < length (with_key b (key_of b over) seen)
-  pub least : (key : List ℕ) → is_lt (slice_cmp nat_cmp key (key_of b over)) ≡ true → length (with_key b key seen) ≤ b.most
+  pub least : (key : List ℕ) → is_lt (slice_cmp nat_cmp key (key_of b over)) ≡ true →
+      length (with_key b key seen) ≤ b.most
   pub passed : is_lt (slice_cmp nat_cmp (key_of b last) (key_of b over)) ≡ false
 
 -- no key seen is over the bound, and the last one has this count; or `over` has the least key that is

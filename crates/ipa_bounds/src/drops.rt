@@ -4,9 +4,11 @@ ghost use Rattle.ipa_logic.specs.Groups.{Within};
 ghost use Rattle.ipa_logic.specs.DueDrops.{IsWithin, IsFirstOver, IsDueDrop};
 ghost use Rattle.ipa_bounds.specs.Choices.{IsChosen, IsOverAt, IsWithinAt};
 
-use crate::greatest::greatest_of_group;
+use crate::ages::AgedView;
 use crate::groups::{key_of, least_over};
+use crate::picks::picked_of_group;
 use ipa_logic::{Fact, View};
+use ipa_spec::laws::spec_is_fit;
 use ipa_spec::{Bound, Spec};
 
 /// A drop: what a state that is over a bound is to lose.
@@ -19,8 +21,9 @@ pub struct DropOf {
 }
 
 /// The drop that is due in the viewed state, or `None` where it is within the bounds.
-pub fn first_drop<V: View>(spec: &Spec, view: &V) -> Option<DropOf>
-    ensures due { MatchOption result (Within spec.now.bounds (V.facts view.now)) (λ drop. IsDueDrop spec.now.bounds (V.facts view.now) drop.bound drop.fact) }
+pub fn first_drop<V: AgedView>(spec: &Spec, view: &V) -> Option<DropOf>
+    ensures due { MatchOption result (Within spec.now.bounds (V.facts view.now))
+        (λ drop. IsDueDrop spec.now.bounds (V.facts view.now) (V.ages view.now) drop.bound drop.fact) }
 {
     let number = first_over_in(spec, view)?;
     let bound = spec.bounds().get(number as usize)?;
@@ -64,14 +67,14 @@ fn is_over<V: View>(spec: &Spec, view: &V, number: u8) -> bool
 fn bound_count(spec: &Spec) -> u8
     ensures { result ≡ length spec.now.bounds }
 {
-    let _faultless = spec.clauses();
+    spec_is_fit(spec);
     spec.bounds().len() as u8
 }
 
 // The fact that the drop of this bound removes, or `None` where no group exceeds the bound.
-fn fact_to_drop<V: View>(view: &V, bound: &Bound) -> Option<Fact>
-    ensures { MatchOption result (IsWithin bound.now (V.facts view.now)) (IsChosen bound.now (V.facts view.now)) }
+fn fact_to_drop<V: AgedView>(view: &V, bound: &Bound) -> Option<Fact>
+    ensures { MatchOption result (IsWithin bound.now (V.facts view.now)) (IsChosen bound.now (V.facts view.now) (V.ages view.now)) }
 {
     let least = least_over(view, bound)?;
-    greatest_of_group(view, bound, &key_of(bound, &least))
+    picked_of_group(view, bound, &key_of(bound, &least))
 }

@@ -6,8 +6,7 @@ ghost use Rattle.ipa_bounds.specs.Choices.{comes_before, first_of, LeadsExcess, 
 
 use crate::members::next_member;
 use crate::runs::{Found, least_in_order};
-use crate::walks::true_facts;
-use ipa_logic::{Fact, View};
+use ipa_logic::{Fact, View, true_facts};
 use ipa_spec::Bound;
 
 // The key of the fact's group: its elements in all places but the counted one, where 0 stands.

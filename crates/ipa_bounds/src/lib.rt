@@ -3,9 +3,11 @@
 //! A bound counts one place of a predicate. A group is the true facts of the predicate that agree in all
 //! other places, which are its key. `within` says whether no group has more facts than its bound allows.
 //! `first_drop` is the due drop: of the first bound, in declared order, that a group exceeds, the group of
-//! least key, and its greatest fact. `first_over` is the first bound that a group exceeds after an action,
-//! judged without building the state after: its facts are asked of the view and of the action's effects.
-//! The choice of the bound and the group stands apart from the choice of the fact. Nothing here takes memory.
+//! least key, and the fact of it that the bound picks, its greatest or its youngest. How young facts are is
+//! asked of the view, an `AgedView`; in a `State` all facts are of one age. `first_over` is the first bound
+//! that a group exceeds after an action, judged without building the state after: its facts are asked of the
+//! view and of the action's effects. The choice of the bound and the group stands apart from the choice of the
+//! fact. Nothing here takes memory.
 //!
 //! ```
 //! if let Some(drop) = first_drop(&spec, &state) {
@@ -15,20 +17,15 @@
 //! ```
 #![tactic(auto)]
 
-mod added;
-mod after;
+mod ages;
 mod drops;
-mod greatest;
 mod groups;
 mod members;
 mod over;
+mod picks;
 mod runs;
-mod walks;
 
+pub use ages::AgedView;
 pub use drops::{DropOf, first_drop, within};
+pub use ipa_logic::Age;
 pub use over::first_over;
-
-#[cfg(test)]
-mod plain;
-#[cfg(test)]
-mod tests;

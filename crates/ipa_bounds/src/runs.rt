@@ -9,8 +9,7 @@ ghost use Rattle.ipa_logic.specs.declared.facts.Fact.{Fact as TheFact};
 ghost use Rattle.ipa_bounds.specs.Runs.{count_before, IsRun, IsFound};
 
 use crate::groups::key_of;
-use crate::walks::true_facts;
-use ipa_logic::{Fact, View};
+use ipa_logic::{Fact, View, true_facts};
 use ipa_spec::Bound;
 use std::cmp::Ordering;
 

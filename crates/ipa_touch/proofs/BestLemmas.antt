@@ -7,7 +7,7 @@ use Rattle.std.specs.Cmp.Lexicographic.{slice_cmp, nat_list_cmp_total}
 use Rattle.ipa_logic.specs.Facts.{Universe}
 use Rattle.ipa_logic.specs.OrderLaws.{Less-from_lt, lt-through, lt-past}
 use Rattle.ipa_logic.specs.Truth.{IsOver}
-use Rattle.ipa_touch.specs.Searches.{Fits, PassPinned, FirstPinned, IsUpTo, IsFailed, IsFailing, Improves, IsFirstFailing, IsEarlierOf}
+use Rattle.ipa_touch.specs.Searches.{Fits, PassPinned, FirstPinned, IsUpTo, IsFailed, IsFailing, Improves, IsFirstFailed, IsEarlierOf}
 use Rattle.ipa_touch.proofs.OrderLemmas.{earlier-from_less, less-from_earlier}
 
 -- the earlier of two that are there
@@ -73,14 +73,14 @@ module _ (p : List ℕ → Bool) (universe : Universe) (sorts : List ℕ) where
 
   -- all that fails is turned, so that the best is the first
   pub first-best : (turned : List ℕ → Bool) (best : Option (List ℕ)) → Improves p universe sorts turned None best → ((v : List ℕ) → IsFailed p universe sorts v → turned v ≡ true)
-      → MatchOption best ((v : List ℕ) → IsOver universe sorts v → p v ≡ true) (IsFirstFailing p universe sorts)
+      → MatchOption best ((v : List ℕ) → IsOver universe sorts v → p v ≡ true) (IsFirstFailed p universe sorts)
   first-best turned best i all = here best (i.failing tt) (λ v f. i.own v f (all v f))
     where
       passing : (v : List ℕ) → (IsFailed p universe sorts v → ⊥) → IsOver universe sorts v → p v ≡ true
       passing v holds o = elim (cases_Bool (p v)) [ inl passes ↦ passes | inr fails ↦ absurd (holds (record { over = o; fails = fails })) ]
 
       here : (best : Option (List ℕ)) → IsFailing p universe sorts best → ((v : List ℕ) → IsFailed p universe sorts v → IsUpTo best v)
-          → MatchOption best ((v : List ℕ) → IsOver universe sorts v → p v ≡ true) (IsFirstFailing p universe sorts)
+          → MatchOption best ((v : List ℕ) → IsOver universe sorts v → p v ≡ true) (IsFirstFailed p universe sorts)
       here None f up = λ v o. passing v (up v) o
       here (Some r) f up = record {
         over = f.over;

@@ -6,7 +6,7 @@ use Rattle.std.specs.Cmp.Lexicographic.{slice_cmp}
 use Rattle.std.specs.declared.cmp.Ordering.{Ordering}
 use Rattle.std.specs.declared.cmp.Ordering.TheVariants.{Less, Equal, Greater}
 use Rattle.std.proofs.lemmas.Map.Lookups.{exact_unsigned}
-use Rattle.ipa_logic.specs.Truth.{element_of, IsEarlier}
+use Rattle.ipa_logic.specs.Truth.{value_at, IsEarlier}
 
 lt-from_Less : (x y : ℕ) → nat_cmp x y ≡ Less → x < y
 lt-from_Less x y h = grind (arith, nat_tests)
@@ -25,13 +25,13 @@ earlier-from_less (x ∷ xs) (y ∷ ys) e h = here (nat_cmp x y) refl h (earlier
     here Less k h rest = record { place = 0; same = λ j l. absurd (omega arith); less = lt-from_Less x y k }
     here Equal k h rest = let later = rest h in record { place = suc later.place; same = same later; less = later.less }
       where
-        same : (later : IsEarlier xs ys) → (j : ℕ) → j < suc later.place → element_of (x ∷ xs) j ≡ element_of (y ∷ ys) j
+        same : (later : IsEarlier xs ys) → (j : ℕ) → j < suc later.place → value_at (x ∷ xs) j ≡ value_at (y ∷ ys) j
         same later zero l = exact_unsigned x y k
         same later (suc j) l = later.same j (omega arith)
     here Greater k h rest = cc
 
 -- and earlier values compare less
-less-at : (v w : List ℕ) (place : ℕ) → length v ≡ length w → ((j : ℕ) → j < place → element_of v j ≡ element_of w j) → element_of v place < element_of w place → slice_cmp nat_cmp v w ≡ Less
+less-at : (v w : List ℕ) (place : ℕ) → length v ≡ length w → ((j : ℕ) → j < place → value_at v j ≡ value_at w j) → value_at v place < value_at w place → slice_cmp nat_cmp v w ≡ Less
 less-at [] [] place e s l = absurd (let h : 0 < 0 = l in omega arith)
 less-at [] (y ∷ ys) place e s l = absurd (omega arith)
 less-at (x ∷ xs) [] place e s l = absurd (omega arith)

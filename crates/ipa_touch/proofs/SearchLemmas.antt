@@ -3,7 +3,7 @@ use Rattle.std.proofs.Common.{◌≡◌, ℕ, ◌+◌, ◌<◌, ◌≤◌, Bool,
 use Rattle.std.proofs.lemmas.Bool.{cases_lt}
 use Rattle.std.specs.List.{slice_set}
 use Rattle.ipa_logic.specs.Facts.{Universe, size_of}
-use Rattle.ipa_logic.specs.Truth.{element_of, IsOver}
+use Rattle.ipa_logic.specs.Truth.{value_at, IsOver}
 use Rattle.ipa_logic.specs.Values.{IsPartial, Agrees}
 use Rattle.ipa_logic.specs.ValueLaws.{over-done, same-done, agrees-next, agrees-before, earlier-next, not_earlier}
 use Rattle.ipa_touch.specs.Leaps.{Leaps}
@@ -12,7 +12,7 @@ use Rattle.ipa_touch.specs.Searches.{Fits, PassPinned, FirstPinned, Covers}
 module _ (p : List ℕ → Bool) (universe : Universe) (sorts : List ℕ) (pins : List (Option ℕ)) where
   -- what the search knows before it tries x in the place
   pub record PassBelow (values : List ℕ) (place x : ℕ) : Type 0 where
-    pub passes : (v : List ℕ) → IsOver universe sorts v → Fits pins v → Agrees place v values → element_of v place < x → p v ≡ true
+    pub passes : (v : List ℕ) → IsOver universe sorts v → Fits pins v → Agrees place v values → value_at v place < x → p v ≡ true
 
   pub pass-done : (values : List ℕ) (place : ℕ) → IsPartial universe sorts values place → length sorts ≤ place → p values ≡ true → PassPinned p universe sorts pins values place
   pass-done values place h e t = record { passes = λ v o f a. ap p (same-done universe sorts values place h e v o a) ∙ t }
@@ -31,16 +31,16 @@ module _ (p : List ℕ → Bool) (universe : Universe) (sorts : List ℕ) (pins 
 
   -- no values have an element before the first that is tried
   pub below-first : (values : List ℕ) (place sort size first end : ℕ) → slice_get sorts place ≡ Some sort → size ≡ size_of universe sort
-      → ((v : List ℕ) → Fits pins v → element_of v place < size → Covers first end (element_of v place)) → PassBelow values place first
+      → ((v : List ℕ) → Fits pins v → value_at v place < size → Covers first end (value_at v place)) → PassBelow values place first
   below-first values place sort size first end g e all = record {
     passes = λ v o f a l.
-        let inside : element_of v place < size_of universe sort = o.elements place sort g in
-        absurd (let covered : first ≤ element_of v place = (all v f (omega arith)).from in omega arith);
+        let inside : value_at v place < size_of universe sort = o.elements place sort g in
+        absurd (let covered : first ≤ value_at v place = (all v f (omega arith)).from in omega arith);
   }
 
   pub below-next : (values : List ℕ) (place x : ℕ) → place < length values → PassBelow values place x → PassPinned p universe sorts pins (slice_set values place x) (place + 1) → PassBelow values place (x + 1)
   below-next values place x inside b f = record {
-    passes = λ v o fit a l. elim (cases_lt (element_of v place) x) [
+    passes = λ v o fit a l. elim (cases_lt (value_at v place) x) [
       | inl lt ↦ b.passes v o fit a lt
       | inr ge ↦ f.passes v o fit (agrees-next values v place x inside a (omega arith))
     ];
@@ -49,7 +49,7 @@ module _ (p : List ℕ → Bool) (universe : Universe) (sorts : List ℕ) (pins 
   -- elements with which all values pass are leapt over
   pub below-leap : (values : List ℕ) (place x next : ℕ) → PassBelow values place x → Leaps p place values x next → PassBelow values place next
   below-leap values place x next b leaps = record {
-    passes = λ v o fit a l. elim (cases_lt (element_of v place) x) [
+    passes = λ v o fit a l. elim (cases_lt (value_at v place) x) [
       | inl lt ↦ b.passes v o fit a lt
       | inr ge ↦ leaps.passes v a ge l
     ];
@@ -69,10 +69,10 @@ module _ (p : List ℕ → Bool) (universe : Universe) (sorts : List ℕ) (pins 
 
   -- all elements that values may have are tried
   pub pass-all : (values : List ℕ) (place sort size first end x : ℕ) → slice_get sorts place ≡ Some sort → size ≡ size_of universe sort
-      → ((v : List ℕ) → Fits pins v → element_of v place < size → Covers first end (element_of v place)) → end ≤ x
+      → ((v : List ℕ) → Fits pins v → value_at v place < size → Covers first end (value_at v place)) → end ≤ x
       → PassBelow values place x → PassPinned p universe sorts pins values place
   pass-all values place sort size first end x g e all le b = record {
     passes = λ v o f a.
-        let inside : element_of v place < size_of universe sort = o.elements place sort g in
-        let covered : element_of v place < end = (all v f (omega arith)).below in b.passes v o f a (omega arith);
+        let inside : value_at v place < size_of universe sort = o.elements place sort g in
+        let covered : value_at v place < end = (all v f (omega arith)).below in b.passes v o f a (omega arith);
   }

@@ -1,18 +1,18 @@
 //! The first instance that an action breaks.
 ghost use Rattle.std.specs.Prelude.{◌≡◌, ◌≤◌, length, MatchOption};
-ghost use Rattle.ipa_spec.specs.Actions.{effects_of, sorts_of_vars};
-ghost use Rattle.ipa_spec.specs.Limits.{IsFaultless};
+ghost use Rattle.ipa_spec.specs.Actions.{sorts_of_vars};
 ghost use Rattle.ipa_logic.specs.Facts.{has};
 ghost use Rattle.ipa_logic.specs.Truth.{Keeps, KeepsClause, IsFirstBroken};
 ghost use Rattle.ipa_logic.specs.Touches.{plain_application};
 ghost use Rattle.ipa_touch.specs.Turns.{holds_after, passes_after, turns, is_turned};
-ghost use Rattle.ipa_touch.specs.Searches.{Improves, IsFirstFailing, IsEarlierOf};
+ghost use Rattle.ipa_touch.specs.Searches.{Improves, IsFirstFailed, IsEarlierOf};
 ghost use Rattle.std.specs.List.{list_any};
 
 use crate::pins::pins_of;
 use crate::search::first_pinned;
 use crate::step::Step;
 use ipa_logic::{Broken, Universe, View, drop_effect};
+use ipa_spec::laws::spec_is_fit;
 use ipa_spec::{Action, Clause, Effect, Literal, Spec};
 
 /// The first instance, by clause and then by values, that is not true in the state after the action
@@ -27,8 +27,8 @@ pub fn first_broken<V: View>(
 ) -> Option<Broken>
     requires { Keeps spec.now universe.now.sizes (has (V.facts view.now)) }
     ensures { MatchOption result
-        (Keeps spec.now universe.now.sizes (plain_application (effects_of spec.now action) args.now (has (V.facts view.now))))
-        (λ broken. IsFirstBroken spec.now universe.now.sizes (plain_application (effects_of spec.now action) args.now (has (V.facts view.now))) broken.clause broken.values) }
+        (Keeps spec.now universe.now.sizes (plain_application spec.now action args.now (has (V.facts view.now))))
+        (λ broken. IsFirstBroken spec.now universe.now.sizes (plain_application spec.now action args.now (has (V.facts view.now))) broken.clause broken.values) }
 {
     let step = Step {
         spec,
@@ -37,7 +37,8 @@ pub fn first_broken<V: View>(
         action,
         args,
     };
-    for (number, clause) in clauses_of(spec).iter().enumerate() {
+    spec_is_fit(spec);
+    for (number, clause) in spec.clauses().as_slice().iter().enumerate() {
         if let Some(values) = first_broken_values(&step, clause) {
             return Some(Broken {
                 clause: number as u8,
@@ -48,22 +49,14 @@ pub fn first_broken<V: View>(
     None
 }
 
-// The clauses, in declared order.
-fn clauses_of(spec: &Spec) -> &[Clause]
-    ensures value { result.now ≡ spec.now.clauses }
-    ensures faultless { IsFaultless spec.now }
-{
-    spec.clauses().as_slice()
-}
-
 // The first values under which the clause is not true after the action: of those under which the action
 // turns one of its literals false.
 fn first_broken_values<V: View>(step: &Step<'_, V>, clause: &Clause) -> Option<[u16; 4]>
     requires short { length clause.now.vars ≤ 4 }
-    requires kept { KeepsClause step.now.spec.now.predicates step.now.universe.now.sizes (has (V.facts step.now.view.now)) clause.now }
+    requires kept { KeepsClause step.now.spec.now step.now.universe.now.sizes (has (V.facts step.now.view.now)) clause.now }
     ensures { MatchOption result
-        (KeepsClause step.now.spec.now.predicates step.now.universe.now.sizes (holds_after step.now.spec.now step.now.action step.now.args.now (V.facts step.now.view.now)) clause.now)
-        (IsFirstFailing (passes_after step.now.spec.now step.now.action step.now.args.now (V.facts step.now.view.now) clause.now) step.now.universe.now.sizes (sorts_of_vars clause.now.vars)) }
+        (KeepsClause step.now.spec.now step.now.universe.now.sizes (holds_after step.now.spec.now step.now.action step.now.args.now (V.facts step.now.view.now)) clause.now)
+        (IsFirstFailed (passes_after step.now.spec.now step.now.action step.now.args.now (V.facts step.now.view.now) clause.now) step.now.universe.now.sizes (sorts_of_vars clause.now.vars)) }
 {
     let mut best = None;
     for literal in clause.literals.as_slice() {
@@ -81,7 +74,7 @@ fn better_by_literal<V: View>(
 ) -> Option<[u16; 4]>
     requires { length clause.now.vars ≤ 4 }
     ensures { Improves (passes_after step.now.spec.now step.now.action step.now.args.now (V.facts step.now.view.now) clause.now) step.now.universe.now.sizes (sorts_of_vars clause.now.vars)
-        (λ v. is_turned step.now.spec.now.predicates (effects_of step.now.spec.now step.now.action) step.now.args.now v literal.now) best result }
+        (λ v. is_turned step.now.spec.now step.now.action step.now.args.now v literal.now) best result }
 {
     match step.action {
         Action::Op(number) => match step.spec.operations().get(number as usize) {
@@ -120,7 +113,7 @@ fn better_by_effects<V: View>(
 ) -> Option<[u16; 4]>
     requires { length clause.now.vars ≤ 4 }
     ensures { Improves (passes_after step.now.spec.now step.now.action step.now.args.now (V.facts step.now.view.now) clause.now) step.now.universe.now.sizes (sorts_of_vars clause.now.vars)
-        (λ v. list_any (turns step.now.spec.now.predicates step.now.args.now v literal.now) effects.now) best result }
+        (λ v. list_any (turns step.now.spec.now step.now.args.now v literal.now) effects.now) best result }
 {
     let mut least = best;
     for effect in effects {
@@ -139,7 +132,7 @@ fn better_by_effect<V: View>(
 ) -> Option<[u16; 4]>
     requires { length clause.now.vars ≤ 4 }
     ensures { Improves (passes_after step.now.spec.now step.now.action step.now.args.now (V.facts step.now.view.now) clause.now) step.now.universe.now.sizes (sorts_of_vars clause.now.vars)
-        (λ v. turns step.now.spec.now.predicates step.now.args.now v literal.now effect.now) best result }
+        (λ v. turns step.now.spec.now step.now.args.now v literal.now effect.now) best result }
 {
     match pins_of(step.spec, step.args, literal, effect) {
         None => best,

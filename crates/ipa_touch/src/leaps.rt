@@ -2,19 +2,23 @@
 //!
 //! An instance is true where a fact that the clause denies is false. Where the first variables decide the
 //! places of such a fact before that of the next variable, the view is asked for the elements with which it
-//! is true, and no others are tried. A fact that the action adds is made of the action's arguments, so these
-//! are tried too, and the element 0, which stands for an argument that is not given.
-ghost use Rattle.std.specs.Prelude.{◌≡◌, ℕ, ◌<◌, ◌≤◌, true, not, [], ◌∷◌, List, MatchOption};
+//! is true, and no others are tried. A fact that the action adds is made of the action's arguments and of
+//! constants, so these are tried too, and the element 0, which stands for an argument that is not given.
+ghost use Rattle.std.specs.Prelude.{◌≡◌, ◌↔◌, IsTrue, ℕ, ◌<◌, ◌≤◌, true, not, [], ◌∷◌, List, MatchOption};
 ghost use Rattle.ipa_logic.specs.Facts.{has};
-ghost use Rattle.ipa_logic.specs.Truth.{element_of, fact_of, literal_true};
+ghost use Rattle.ipa_spec.specs.Constants.{element_of_constant};
+ghost use Rattle.ipa_logic.specs.Truth.{value_at, fact_of, literal_true};
 ghost use Rattle.ipa_logic.specs.Values.{Agrees};
 ghost use Rattle.ipa_touch.specs.Turns.{holds_after, passes_after};
 ghost use Rattle.ipa_touch.specs.Leaps.{Leaps, IsFree};
+ghost use Rattle.ipa_spec.specs.declared.constants.Term.TheVariants.{Var as Variable};
 
 use crate::known::{first_known, second_known, third_known};
+use crate::settled::is_term_decided;
 use crate::step::Step;
 use ipa_logic::{View, arity_of, element_of};
-use ipa_spec::{Atom, Clause, Literal, Spec};
+use ipa_spec::laws::spec_is_fit;
+use ipa_spec::{Atom, Clause, Literal, Spec, Term};
 
 // An element of the variable `at`, from `from` on, where the clause is true after the action with each
 // element that is leapt over. Where a denied fact is false with all further elements it is `end`.
@@ -44,7 +48,7 @@ fn leap_by_literal<V: View>(
     from: u16,
     end: u16,
 ) -> u16
-    ensures { Leaps (λ v. literal_true step.now.spec.now.predicates (holds_after step.now.spec.now step.now.action step.now.args.now (V.facts step.now.view.now)) v literal.now) at values.now from result }
+    ensures { Leaps (λ v. literal_true step.now.spec.now (holds_after step.now.spec.now step.now.action step.now.args.now (V.facts step.now.view.now)) v literal.now) at values.now from result }
 {
     match literal {
         Literal::Fails(atom) => leap_by_atom(step, atom, at, values, from, end),
@@ -61,9 +65,9 @@ fn leap_by_atom<V: View>(
     from: u16,
     end: u16,
 ) -> u16
-    ensures { Leaps (λ v. not (holds_after step.now.spec.now step.now.action step.now.args.now (V.facts step.now.view.now) (fact_of step.now.spec.now.predicates v atom.now))) at values.now from result }
+    ensures { Leaps (λ v. not (holds_after step.now.spec.now step.now.action step.now.args.now (V.facts step.now.view.now) (fact_of step.now.spec.now v atom.now))) at values.now from result }
 {
-    if from == 0 {
+    if from < past_constants(step.spec) {
         return from;
     }
     match free_place(step.spec, atom, at) {
@@ -75,21 +79,44 @@ fn leap_by_atom<V: View>(
     }
 }
 
-// The place of the atom that has the variable `at`, where the places before it have variables before that.
+// The place of the atom that has the variable `at`, where the variables before that decide the places before it.
 fn free_place(spec: &Spec, atom: &Atom, at: u8) -> Option<u8>
-    ensures { MatchOption result (Unit {0}) (IsFree spec.now.predicates atom.now at) }
+    ensures { MatchOption result (Unit {0}) (IsFree spec.now atom.now at) }
 {
     let arity = arity_of(spec, atom.predicate);
     let [first, second, third] = atom.args;
-    if first == at && arity > 0 {
+    if is_variable(first, at) && arity > 0 {
         Some(0)
-    } else if first < at && second == at && arity > 1 {
+    } else if is_term_decided(first, at) && is_variable(second, at) && arity > 1 {
         Some(1)
-    } else if first < at && second < at && third == at && arity > 2 {
+    } else if is_term_decided(first, at)
+        && is_term_decided(second, at)
+        && is_variable(third, at)
+        && arity > 2
+    {
         Some(2)
     } else {
         None
     }
+}
+
+// Whether the term is the variable of this number.
+fn is_variable(term: Term, number: u8) -> bool
+    ensures { IsTrue result ↔ (term ≡ Variable number) }
+{
+    match term {
+        Term::Var(variable) => variable == number,
+        Term::Const(_) => false,
+    }
+}
+
+// An element past 0 and past those of all constants.
+fn past_constants(spec: &Spec) -> u16
+    ensures some { 0 < result }
+    ensures past { (k : ℕ) → element_of_constant spec.now k < result }
+{
+    spec_is_fit(spec);
+    if spec.constants().is_empty() { 1 } else { 4 }
 }
 
 // The least element from `from` on in the place with which the atom's fact was true, or `end`.
@@ -103,11 +130,11 @@ fn least_known<V: View>(
     end: u16,
 ) -> u16
     requires some { 0 < from }
-    requires free { IsFree step.now.spec.now.predicates atom.now at place }
-    ensures { (v : List ℕ) → Agrees at v values.now → from ≤ element_of v at → has (V.facts step.now.view.now) (fact_of step.now.spec.now.predicates v atom.now) ≡ true → result ≤ element_of v at }
+    requires free { IsFree step.now.spec.now atom.now at place }
+    ensures { (v : List ℕ) → Agrees at v values.now → from ≤ value_at v at → has (V.facts step.now.view.now) (fact_of step.now.spec.now v atom.now) ≡ true → result ≤ value_at v at }
 {
-    let one = element_of(values, atom.args[0]);
-    let two = element_of(values, atom.args[1]);
+    let one = element_of(step.spec, values, atom.args[0]);
+    let two = element_of(step.spec, values, atom.args[1]);
     match place {
         0 => first_known(step.view, atom.predicate, from, end),
         1 => second_known(step.view, atom.predicate, one, from, end),
@@ -121,7 +148,7 @@ fn least_arg(args: &[u16; 4], from: u16, end: u16) -> u16
     requires ordered { from ≤ end }
     ensures on { from ≤ result }
     ensures within { result ≤ end }
-    ensures all { (k : ℕ) → from ≤ element_of args.now k → result ≤ element_of args.now k }
+    ensures all { (k : ℕ) → from ≤ value_at args.now k → result ≤ value_at args.now k }
 {
     let [one, two, three, four] = *args;
     let last = lower(four, from, end);

@@ -2,7 +2,7 @@
 //!
 //! An effect turns a literal false where it removes the literal's fact, or adds the fact that the literal
 //! denies. Where the state before keeps all clauses, an instance that is not true after the action has a
-//! literal that one of the effects turns false: touched instances suffice. So for each literal and each
+//! literal that one of the effects turns false: touched instances suffice (`laws`). So for each literal and each
 //! effect `first_broken` goes through the instances that this effect fixes, and takes the first by clause and
 //! then by values. A variable that stays free has the elements with which a denied fact of the clause is true,
 //! which the view is asked for, or all elements where there is no such fact. That this is the first broken
@@ -16,6 +16,7 @@
 
 mod broken;
 mod known;
+pub mod laws;
 mod leaps;
 mod pins;
 mod search;
@@ -23,6 +24,3 @@ mod settled;
 mod step;
 
 pub use broken::first_broken;
-
-#[cfg(test)]
-mod tests;

@@ -6,7 +6,7 @@
 //! fact of the clause is sure to be false are leapt over.
 ghost use Rattle.std.specs.Prelude.{◌≡◌, ℕ, ◌<◌, ◌≤◌, None, List, length, slice_index_or, MatchOption};
 ghost use Rattle.ipa_spec.specs.Actions.{sorts_of_vars};
-ghost use Rattle.ipa_logic.specs.Truth.{element_of};
+ghost use Rattle.ipa_logic.specs.Truth.{value_at};
 ghost use Rattle.ipa_logic.specs.Values.{IsPartial};
 ghost use Rattle.ipa_touch.specs.Turns.{passes_after};
 ghost use Rattle.ipa_touch.specs.Searches.{Fits, PassPinned, FirstPinned, Covers};
@@ -66,7 +66,7 @@ struct Elements {
 fn elements_to_try(pins: &[Option<u16>; 4], variable: u8, size: u16) -> Elements
     ensures within { result.end ≤ size }
     ensures ordered { result.first ≤ result.end }
-    ensures all { (v : List ℕ) → Fits pins.now v → element_of v variable < size → Covers result.first result.end (element_of v variable) }
+    ensures all { (v : List ℕ) → Fits pins.now v → value_at v variable < size → Covers result.first result.end (value_at v variable) }
 {
     match pin_of(pins, variable) {
         None => Elements {

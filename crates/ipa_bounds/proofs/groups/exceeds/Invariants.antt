@@ -1,6 +1,6 @@
 use Rattle.std.proofs.Common.{◌≡◌, ◌+◌, ◌-◌, ◌≤◌, length}
 use Rattle.ipa_logic.specs.Groups.{group_of}
-use Rattle.ipa_bounds.specs.Walks.{facts_after}
+use Rattle.ipa_logic.specs.Walks.{facts_after}
 use Rattle.ipa_bounds.proofs.groups.exceeds.Given as goal
 
 abbrev pub invariant-loop-fact : goal.invariant-loop-fact

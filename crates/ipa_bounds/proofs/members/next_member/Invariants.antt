@@ -1,7 +1,7 @@
 use Rattle.std.proofs.Common.{◌≡◌, length}
 use Rattle.ipa_logic.specs.Groups.{group_of}
 use Rattle.ipa_logic.specs.Views.{next_fact}
-use Rattle.ipa_bounds.specs.Walks.{facts_after}
+use Rattle.ipa_logic.specs.Walks.{facts_after}
 use Rattle.ipa_bounds.proofs.members.next_member.Given as goal
 
 abbrev pub invariant-loop-fact : goal.invariant-loop-fact

@@ -1,5 +1,5 @@
 use Rattle.std.proofs.Common.{◌≡◌, ◌++◌, ◌≤◌, None}
-use Rattle.ipa_bounds.specs.Walks.{facts_after, facts_from}
+use Rattle.ipa_logic.specs.Walks.{facts_after}
 use Rattle.ipa_bounds.specs.Runs.{IsRun}
 use Rattle.ipa_bounds.proofs.runs.least_in_order.Given as goal
 
@@ -7,5 +7,5 @@ abbrev pub invariant-loop-fact : goal.invariant-loop-fact
 invariant-loop-fact g l = record {
   few : l.run.count ≤ l.bound.most;
   run : IsRun l.bound l.yielded l.run.last l.run.count l.run.over;
-  split : l.yielded ++ facts_from (g.V.View.facts l.fact-iterator.view.now) l.fact-iterator.predicate l.fact-iterator.next ≡ facts_after (g.V.View.facts l.view) l.bound.predicate None;
+  split : l.yielded ++ l.fact-iterator ≡ facts_after (g.V.View.facts l.view) l.bound.predicate None;
 }

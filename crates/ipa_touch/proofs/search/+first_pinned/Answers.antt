@@ -15,7 +15,7 @@ returns-else-passes_after g t c = first-done _ _ _ _ _ _ c.requires.partial (var
 
 pub returns-then-is_settled : goal.returns-then-is_settled
 returns-then-is_settled g t c = pass-settled _ _ _ _ _ _ (λ v a.
-    settled-passes c.args.step.now.spec.now.predicates c.args.at v c.args.values a (holds_after c.args.step.now.spec.now c.args.step.now.action c.args.step.now.args.now (g.V.View.facts c.args.step.now.view.now)) c.args.clause.now (sym c.if-is_settled.ensures))
+    settled-passes c.args.step.now.spec.now c.args.at v c.args.values a (holds_after c.args.step.now.spec.now c.args.step.now.action c.args.step.now.args.now (g.V.View.facts c.args.step.now.view.now)) c.args.clause.now (sym c.if-is_settled.ensures))
 
 pub loop-element-init : goal.loop-element-init
 loop-element-init g t c = below-leap _ _ _ _ _ _ _ _ (below-first _ _ _ _ _ _ _ _ _ _ (variable-at c.args.clause.now.vars c.args.at c.in-Some.variable.now c.in-Some.ensures) c.size_of.ensures c.elements_to_try-elements.ensures.all) c.leap-element.ensures

@@ -1,8 +1,0 @@
-use Rattle.std.proofs.Common.{◌≡◌, filter, None}
-use Rattle.ipa_logic.specs.Groups.{is_in_group, group_of}
-use Rattle.ipa_bounds.specs.Walks.{facts_from}
-use Rattle.ipa_bounds.proofs.GreatestLemmas.{last_of}
-use Rattle.ipa_bounds.proofs.greatest.greatest_of_group.Given as goal
-
-abbrev pub invariant-loop-fact : goal.invariant-loop-fact
-invariant-loop-fact g l = last_of l.last (filter (is_in_group l.bound l.key) (facts_from (g.V.View.facts l.fact-iterator.view.now) l.fact-iterator.predicate l.fact-iterator.next)) ≡ last_of None (group_of l.bound l.key (g.V.View.facts l.view))
