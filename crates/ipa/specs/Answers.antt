@@ -19,7 +19,8 @@ abbrev pub IsVerdictOn : (List ℕ → Status → List ℕ → Type 0) → Optio
 IsVerdictOn Verdict left status text = IfSome left (λ bytes. Verdict bytes status text)
 
 -- the status is the verdict's, and the verdict's text has been appended
-pub record IsWhole (Verdict : List ℕ → Status → List ℕ → Type 0) (left : Option (List ℕ)) (status : Status) (old new : Option (List ℕ)) : Type 0 where
+pub record IsWhole (Verdict : List ℕ → Status → List ℕ → Type 0) (left : Option (List ℕ)) (status : Status)
+    (old new : Option (List ℕ)) : Type 0 where
   pub text : List ℕ
   pub verdict : IsVerdictOn Verdict left status text
   pub written : Appends old new text
@@ -49,7 +50,8 @@ pub record Edge : Type 0 where
 -- all clauses of a call that reads an input and answers the verdict on it
 pub record AnswersInput (Verdict : List ℕ → Status → List ℕ → Type 0) (edge : Edge) (status : Status) : Type 0 where
   -- without a fault and without want of memory, the status is the verdict's and its text is written
-  pub on_verdict : is_cut_off status ≡ false → IsWhole Verdict edge.left_before status edge.written_before edge.written_after
+  pub on_verdict : is_cut_off status ≡ false →
+      IsWhole Verdict edge.left_before status edge.written_before edge.written_after
   -- a read fault: the source failed, and nothing was written
   pub on_read_fault : status ≡ ReadFault → Rose edge.read_faults_before edge.read_faults_after
   pub unwritten_on_read_fault : status ≡ ReadFault → Keeps edge.written_before edge.written_after

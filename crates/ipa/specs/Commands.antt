@@ -12,7 +12,8 @@ use Rattle.ipa.specs.declared.status.Status.TheVariants.{Usage, WriteFault}
 
 -- the line for words that name no command
 abbrev pub usage_text : List ℕ
-usage_text = codes "usage: ipa check | repair | simulate NUMBER [WEATHER] | simulate --generate NUMBER | audit | run [WEATHER]\n"
+usage_text =
+    codes "usage: ipa check | repair | simulate NUMBER [WEATHER] | simulate --generate NUMBER | audit | run [WEATHER]\n"
 
 -- the words name the command `check`: it is the only word
 abbrev pub IsCheck : {Z : Type 0} → List (String Z) → Type 0

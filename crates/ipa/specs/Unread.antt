@@ -1,6 +1,7 @@
 -- Why there is no answer to an input.
 --
---   IsUnanswered old new end    the source failed, by its counts of faults before and after; want of memory is true of all
+--   IsUnanswered old new end    the source failed, by its counts of faults before and after; want of memory is true of
+--                               all
 use Rattle.std.specs.Prelude.{ℕ}
 use Rattle.ipa_base.specs.Faults.{Rose}
 use Rattle.ipa.specs.declared.checking.Unanswered.{Unanswered}

@@ -1,22 +1,29 @@
 //! What no clause says: that commands answer with ample memory, and what they print, worked out by hand.
 ghost use Rattle.std.specs.Prelude.{◌<◌};
 
-mod documents;
-mod thin;
-
 use crate::{Status, check_command, ipa_main};
-use documents::{
-    CUP_BEFORE_WIDE, EXCLUSIVE_CUP_REMOVED, Row, SECOND_OF_NINE, THREE_WAY, analysed_rows,
-    refused_rows,
-};
-use ipa_base::{MemorySink, MemorySource};
-use ipa_pairs::{accept, analyse_pair};
-use ipa_reader::read_document;
-use ipa_spec::{Action, Spec};
+use ipa_base::{MemorySink, MemorySource, ReaderSource, WriterSink, read_all, write_all};
 use std::alloc::{AllocError, Global};
 use std::test::Fail;
 use std::thread::Threads;
-use thin::thin_rows;
+
+/// Two nodes may not both be leader.
+const LEADERS: &str = "\
+sort node
+pred leader(node) addwins
+clause one(p:node,q:node): not leader(p) or not leader(q) or p = q
+op elect(p:node)
+add leader(p)
+";
+
+const LEADERS_REPORT: &str = "\
+conflict elect(node#1) elect(node#2) breaks one(node#1,node#2)
+  after left: leader(node#1)
+  after right: leader(node#2)
+  lost: not leader(node#2)
+  hidden: none
+conflicts 1, unsafe drops 0
+";
 
 /// What `check` answers to some bytes that come in pieces of at most this size.
 fn checked<R: Threads + Sync>(
@@ -33,107 +40,24 @@ fn checked<R: Threads + Sync>(
     Ok((status, sink.bytes().to_vec(alloc)?))
 }
 
-/// Whether `check` answers a document as the row tells.
-fn answers_so<R: Threads + Sync>(
-    rt: &R,
-    alloc: Global,
-    row: Row,
-    piece: u32,
-) -> Result<bool, AllocError>
-    requires { 0 < piece }
-{
-    let (status, text) = checked(rt, alloc, row.document.as_bytes(), piece)?;
-    Ok(status == row.status && text.as_slice() == row.text.as_bytes())
-}
-
-#[test]
-fn documents_are_refused_at_their_lines(rt: HostRuntime) -> Result<(), Fail> {
-    for row in refused_rows() {
-        if !answers_so(&rt, rt.alloc(), row, 4096)? {
-            return Err(row.shows)?;
-        }
-    }
-    Ok(())
-}
-
-#[test]
-fn documents_are_accepted_or_reported(rt: HostRuntime) -> Result<(), Fail> {
-    for row in analysed_rows() {
-        if !answers_so(&rt, rt.alloc(), row, 4096)? {
-            return Err(row.shows)?;
-        }
-    }
-    Ok(())
-}
-
-#[test]
-fn thin_specifications_are_accepted_or_reported(rt: HostRuntime) -> Result<(), Fail> {
-    for row in thin_rows() {
-        if !answers_so(&rt, rt.alloc(), row, 4096)? {
-            return Err(row.shows)?;
-        }
-    }
-    Ok(())
-}
-
-/// The specification of a short document.
-fn spec_of(alloc: Global, document: &str) -> Result<Spec, Fail> {
-    let bytes = document.as_bytes();
-    if bytes.len() > 4096 {
-        return Err("a long document")?;
-    }
-    let document = read_document(alloc, bytes).map_err(|_| "no document")?;
-    Ok(document.spec)
-}
-
-#[test]
-fn an_accepted_specification_is_handed_out(rt: HostRuntime) -> Result<(), Fail> {
-    let alloc = rt.alloc();
-    let spec = spec_of(alloc, EXCLUSIVE_CUP_REMOVED)?;
-    match accept(alloc, spec) {
-        Ok(accepted) => {
-            let copy = accepted.copy()?;
-            assert_eq!(rt; copy.spec().operations().len(), 2);
-        }
-        Err(_fault) => assert!(rt; false),
-    }
-    Ok(())
-}
-
-#[test]
-fn one_pair_is_analysed_alone(rt: HostRuntime) -> Result<(), Fail> {
-    let alloc = rt.alloc();
-    let spec = spec_of(alloc, CUP_BEFORE_WIDE)?;
-    if spec.operations().len() != 3 {
-        return Err("three operations")?;
-    }
-    match analyse_pair(alloc, &spec, Action::Op(0), Action::Op(1)) {
-        Ok(conflicts) => assert_eq!(rt; conflicts.len(), 1),
-        Err(_fault) => assert!(rt; false),
-    }
-    Ok(())
-}
-
-#[test]
-fn three_adds_of_which_two_may_stand_have_nine_conflicts(rt: HostRuntime) -> Result<(), Fail> {
-    let (status, text) = checked(&rt, rt.alloc(), THREE_WAY.as_bytes(), 4096)?;
-    let text = String::from_utf8(text).map_err(|_| "the report is no text")?;
-    assert_eq!(rt; status, Status::Rejected);
-    assert!(rt; text.as_str().ends_with("\nconflicts 9, unsafe drops 0\n"));
-    let second = text.as_str().split('\n').skip(5).take(5);
-    for (line, wanted) in second.zip(SECOND_OF_NINE.split('\n')) {
-        assert_eq!(rt; line, wanted);
-    }
-    Ok(())
-}
-
 #[test]
 fn pieces_of_any_size_give_the_same_answer(rt: HostRuntime) -> Result<(), Fail> {
     for piece in [1, 7, 4096] {
-        for row in refused_rows() {
-            if !answers_so(&rt, rt.alloc(), row, piece)? {
-                return Err(row.shows)?;
-            }
+        for (document, wanted, text) in [
+            ("", Status::Done, "accepted\n"),
+            (LEADERS, Status::Rejected, LEADERS_REPORT),
+            (
+                "sort player\nsort cup;\n",
+                Status::Refused,
+                "refused: line 2: byte\n",
+            ),
+        ] {
+            let (status, printed) = checked(&rt, rt.alloc(), document.as_bytes(), piece)?;
+            assert_eq!(rt; status, wanted, "in pieces of {piece}");
+            assert!(rt;
+                printed.as_slice() == text.as_bytes(),
+                "in pieces of {piece}"
+            );
         }
     }
     Ok(())
@@ -198,5 +122,17 @@ fn the_word_check_checks(rt: HostRuntime) -> Result<(), Fail> {
     let status = ipa_main(&rt, alloc, &words, &mut source, &mut sink);
     assert_eq!(rt; status.number(), 3);
     assert_eq!(rt; sink.bytes(), b"refused: line 1: byte\n".as_slice());
+    Ok(())
+}
+
+#[test]
+fn bytes_go_from_a_reader_to_a_writer(rt: HostRuntime) -> Result<(), Fail> {
+    let alloc = rt.alloc();
+    let mut source = ReaderSource::new(b"accepted\n".as_slice());
+    let bytes = read_all(alloc, &mut source, 9).map_err(|_| "a read fault")?;
+    let mut written = Vec::new(alloc);
+    let mut sink = WriterSink::new(&mut written);
+    assert_eq!(rt; write_all(&mut sink, &bytes), Ok(()));
+    assert_eq!(rt; written.as_slice(), b"accepted\n".as_slice());
     Ok(())
 }

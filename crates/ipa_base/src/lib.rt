@@ -33,6 +33,3 @@ pub use sink::Sink;
 pub use source::Source;
 pub use writer_sink::WriterSink;
 pub use writing::write_all;
-
-#[cfg(test)]
-mod tests;

@@ -15,20 +15,20 @@ use Rattle.ipa_spec.specs.declared.specification.Specification.{Specification}
 use Rattle.ipa_forms.specs.declared.forms.Form.{Form}
 use Rattle.ipa_canonical.specs.Canonical.{predicate_name, remove_form, bound_form, bound_forms, bound_vars}
 use Rattle.ipa_spec.specs.Limits.{size_outside}
-use Rattle.ipa_declared.specs.Naming.{last_of, with_last}
-use Rattle.ipa_declared.specs.Scopes.{places_of, typed_by_places, bound_variables}
-use Rattle.ipa_declared.specs.Declarations.{with_remove}
-use Rattle.ipa_declared.specs.Flaws.{declaration_has, effect_has, bound_has, specification_line_has}
-use Rattle.ipa_declared.specs.Counts.{count_above, limit_passed}
+use Rattle.ipa_names.specs.Naming.{last_of, with_last}
+use Rattle.ipa_names.specs.Scopes.{places_of, typed_by_places, bound_variables}
+use Rattle.ipa_names.specs.Declarations.{with_remove}
+use Rattle.ipa_names.specs.Flaws.{declaration_has, effect_has, bound_has, specification_line_has}
+use Rattle.ipa_names.specs.Counts.{count_above, limit_passed}
 use Rattle.ipa_canonical.specs.Named.{remove_line, bound_lines}
 use Rattle.ipa_canonical.specs.Shapes.{IsShaped}
-use Rattle.ipa_declared.specs.declared.flaws.Flaw.{Flaw}
-use Rattle.ipa_declared.specs.declared.declared.ClauseLine.{ClauseLine}
-use Rattle.ipa_declared.specs.declared.declared.EffectLine.{EffectLine}
-use Rattle.ipa_declared.specs.declared.declared.OperationLines.{OperationLines}
-use Rattle.ipa_declared.specs.declared.declared.BoundLines.{BoundLines}
-use Rattle.ipa_declared.specs.declared.declared.Declared.{Declared}
-use Rattle.ipa_declared.specs.ListLaws.{with_last_is}
+use Rattle.ipa_names.specs.declared.flaws.Flaw.{Flaw}
+use Rattle.ipa_names.specs.declared.declared.ClauseLine.{ClauseLine}
+use Rattle.ipa_names.specs.declared.declared.EffectLine.{EffectLine}
+use Rattle.ipa_names.specs.declared.declared.OperationLines.{OperationLines}
+use Rattle.ipa_names.specs.declared.declared.BoundLines.{BoundLines}
+use Rattle.ipa_names.specs.declared.declared.Declared.{Declared}
+use Rattle.ipa_names.specs.ListLaws.{with_last_is}
 use Rattle.ipa_spec.specs.FaultlessFits.{SpecificationParts}
 use Rattle.ipa_canonical.proofs.AcceptedChain.{stand, Chain, Onward, no_refusal, each_line, each_chunk}
 use Rattle.ipa_canonical.proofs.AcceptedLimits.{AreInside, count_inside, size_inside, count_before, one_limit, two_limits}
@@ -73,8 +73,8 @@ module _ (s : Specification) (fit : IsFit s) (flaws : SpecificationParts s) (ins
       here : slice_get b.removes k ≡ Some x
       here = at_part b.removes before later x e
 
-      fits : EffectFits s.predicates (place_sorts s.predicates b.predicate) x
-      fits = subst (λ all. EffectFits s.predicates all x) sorts (fit.effects (action.Drop n) (suc k) x (further k x here))
+      fits : EffectFits s (place_sorts s.predicates b.predicate) x
+      fits = subst (λ all. EffectFits s all x) sorts (fit.effects (action.Drop n) (suc k) x (further k x here))
 
       last : last_of (bs ++ lines (map remove_said before) ∷ []) ≡ Some (lines (map remove_said before))
       last = last_there bs (lines (map remove_said before))

@@ -13,17 +13,17 @@ use Rattle.ipa_spec.specs.declared.faults.SpecFault.{SpecFault}
 use Rattle.ipa_spec.specs.declared.faults.SpecFault.TheVariants as fault
 use Rattle.ipa_forms.specs.declared.forms.Form.{Form}
 use Rattle.ipa_reader.specs.Ordering.{is_setup, is_out_of_order}
-use Rattle.ipa_declared.specs.Declarations.{nothing_declared}
+use Rattle.ipa_names.specs.Declarations.{nothing_declared}
 use Rattle.ipa_reader.specs.Arrangements.{nothing_arranged}
 use Rattle.ipa_reader.specs.Standings.{standing_of, next_standing}
-use Rattle.ipa_declared.specs.Flaws.{specification_line_has}
-use Rattle.ipa_declared.specs.Counts.{limit_passed}
-use Rattle.ipa_declared.specs.CountLaws.{there_none, no_fault}
+use Rattle.ipa_names.specs.Flaws.{specification_line_has}
+use Rattle.ipa_names.specs.Counts.{limit_passed}
+use Rattle.ipa_names.specs.CountLaws.{there_none, no_fault}
 use Rattle.ipa_reader.specs.Refusals.{line_has, spec_fault_at, is_missing, setup_limit_at, first_kind, kind_if, refusal_at}
 use Rattle.ipa_reader.specs.Documents.{AreAccepted}
-use Rattle.ipa_declared.specs.declared.flaws.Flaw.{Flaw}
-use Rattle.ipa_declared.specs.declared.flaws.Flaw.TheVariants.{Arity, SortMismatch, UnknownName, Duplicate, WildAdd, FreeVariable}
-use Rattle.ipa_declared.specs.declared.declared.Declared.{Declared}
+use Rattle.ipa_names.specs.declared.flaws.Flaw.{Flaw}
+use Rattle.ipa_names.specs.declared.flaws.Flaw.TheVariants.{Arity, SortMismatch, UnknownName, Duplicate, WildAdd, FreeVariable}
+use Rattle.ipa_names.specs.declared.declared.Declared.{Declared}
 use Rattle.ipa_reader.specs.declared.order.Place.{Place}
 use Rattle.ipa_reader.specs.declared.standing.Standing.{Standing}
 use Rattle.ipa_reader.specs.declared.refusals.DocKind.{DocKind}

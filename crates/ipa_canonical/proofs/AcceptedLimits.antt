@@ -19,7 +19,7 @@ use Rattle.ipa_spec.specs.declared.faults.SpecFault.TheVariants as fault
 use Rattle.ipa_spec.specs.declared.operations.Operation.{Operation}
 use Rattle.ipa_spec.specs.declared.bounds.Bound.{Bound}
 use Rattle.ipa_spec.specs.declared.specification.Specification.{Specification}
-use Rattle.ipa_declared.specs.Counts.{count_above}
+use Rattle.ipa_names.specs.Counts.{count_above}
 
 none_passes : {X : Type 0} (test : ℕ → Bool) (named : ℕ → SpecFault) (of : X → ℕ) (xs : List X) → option_map named (find test (map of xs)) ≡ None → (n : ℕ) (x : X) → slice_get xs n ≡ Some x → test (of x) ≡ false
 none_passes test named of [] h n x e = cc

@@ -19,15 +19,15 @@ use Rattle.ipa_spec.specs.declared.specification.Specification.{Specification}
 use Rattle.ipa_forms.specs.declared.forms.Form.{Form}
 use Rattle.ipa_forms.specs.declared.forms.Form.TheVariants as line
 use Rattle.ipa_canonical.specs.Canonical.{names_at, typed_form, literal_form, names_of, pred_form, clause_form}
-use Rattle.ipa_declared.specs.Declarations.{nothing_declared}
-use Rattle.ipa_declared.specs.Flaws.{declaration_has, sort_has, variables_have, literal_has, specification_line_has}
-use Rattle.ipa_declared.specs.Counts.{count_above, limit_passed}
+use Rattle.ipa_names.specs.Declarations.{nothing_declared}
+use Rattle.ipa_names.specs.Flaws.{declaration_has, sort_has, variables_have, literal_has, specification_line_has}
+use Rattle.ipa_names.specs.Counts.{count_above, limit_passed}
 use Rattle.ipa_canonical.specs.Named.{predicate_line, clause_line}
 use Rattle.ipa_canonical.specs.Shapes.{IsShaped}
-use Rattle.ipa_declared.specs.declared.flaws.Flaw.{Flaw}
-use Rattle.ipa_declared.specs.declared.declared.Declared.{Declared}
-use Rattle.ipa_declared.specs.NumberLaws.{slice_get-mapped}
-use Rattle.ipa_declared.specs.ListLaws.{any-map, at_seam}
+use Rattle.ipa_names.specs.declared.flaws.Flaw.{Flaw}
+use Rattle.ipa_names.specs.declared.declared.Declared.{Declared}
+use Rattle.ipa_names.specs.NumberLaws.{slice_get-mapped}
+use Rattle.ipa_names.specs.ListLaws.{any-map, at_seam}
 use Rattle.ipa_spec.specs.FaultlessFits.{SpecificationParts}
 use Rattle.ipa_canonical.proofs.AcceptedChain.{stand, Chain, Onward, no_refusal, each_line}
 use Rattle.ipa_canonical.proofs.AcceptedLimits.{count_inside, count_before, one_limit, two_limits, three_limits}
@@ -106,8 +106,8 @@ module _ (s : Specification) (fit : IsFit s) (flaws : SpecificationParts s) (sha
       at : slice_get s.clauses n ≡ Some c
       at = at_part s.clauses before later c e
 
-      has : (k : FaultKind) → (numbered.variables_have k s c.vars ≡ false) × (list_any (numbered.literal_has k s.predicates (sorts_of_vars c.vars)) c.literals ≡ false)
-      has k = or_parts (numbered.variables_have k s c.vars) (list_any (numbered.literal_has k s.predicates (sorts_of_vars c.vars)) c.literals) (flaws.clauses n c at k)
+      has : (k : FaultKind) → (numbered.variables_have k s c.vars ≡ false) × (list_any (numbered.literal_has k s (sorts_of_vars c.vars)) c.literals ≡ false)
+      has k = or_parts (numbered.variables_have k s c.vars) (list_any (numbered.literal_has k s (sorts_of_vars c.vars)) c.literals) (flaws.clauses n c at k)
 
       vars_clean : (flaw : Flaw) → variables_have flaw (with_clauses before) (map (typed_form s.sorts) c.vars) ≡ false
       vars_clean flaw = variables_clean flaw (with_clauses before) c.vars (λ k v is. fit.variable_sort n k v.sort c at (slice_get-mapped (λ x. x.sort) c.vars k v is)) (has kind.Duplicate).0

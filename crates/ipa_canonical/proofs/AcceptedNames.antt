@@ -19,16 +19,16 @@ use Rattle.ipa_spec.specs.declared.names.Name.{Name}
 use Rattle.ipa_spec.specs.declared.predicates.Var.{Var}
 use Rattle.ipa_forms.specs.declared.forms.Typed.{Typed}
 use Rattle.ipa_canonical.specs.Canonical.{typed_form, names_of}
-use Rattle.ipa_declared.specs.Naming.{is_among}
-use Rattle.ipa_declared.specs.Scopes.{sort_of_variable, typed_by_places}
-use Rattle.ipa_declared.specs.Flaws.{use_has, declaration_has, sort_has, list_has, variables_have, place_has, variable_has, comparison_has, counted_has}
-use Rattle.ipa_declared.specs.declared.flaws.Flaw.{Flaw}
-use Rattle.ipa_declared.specs.declared.flaws.Flaw.TheVariants.{Arity, SortMismatch, UnknownName, Duplicate, WildAdd, FreeVariable}
-use Rattle.ipa_declared.specs.declared.declared.Declared.{Declared}
+use Rattle.ipa_names.specs.Naming.{is_among}
+use Rattle.ipa_names.specs.Scopes.{sort_of_variable, typed_by_places}
+use Rattle.ipa_names.specs.Flaws.{use_has, declaration_has, sort_has, list_has, variables_have, place_has, variable_has, comparison_has, counted_has}
+use Rattle.ipa_names.specs.declared.flaws.Flaw.{Flaw}
+use Rattle.ipa_names.specs.declared.flaws.Flaw.TheVariants.{Arity, SortMismatch, UnknownName, Duplicate, WildAdd, FreeVariable}
+use Rattle.ipa_names.specs.declared.declared.Declared.{Declared}
 use Rattle.ipa_canonical.proofs.Numbers.{find_back, found_at, typed_names}
-use Rattle.ipa_declared.specs.ListLaws.{any-map}
+use Rattle.ipa_names.specs.ListLaws.{any-map}
 use Rattle.ipa_spec.specs.NameLaws.{same_name-refl}
-use Rattle.ipa_declared.specs.NumberLaws.{repeat-map, slice_get-mapped}
+use Rattle.ipa_names.specs.NumberLaws.{repeat-map, slice_get-mapped}
 
 pub none_zipped : {X Y : Type 0} (test : X × Y → Bool) (xs : List X) (ys : List Y) → ((n : ℕ) (x : X) (y : Y) → slice_get xs n ≡ Some x → slice_get ys n ≡ Some y → test (x, y) ≡ false) → list_any test (zip xs ys) ≡ false
 none_zipped test [] ys h = refl

@@ -9,7 +9,6 @@ use Rattle.std.proofs.lemmas.Bool.{or_from, or_parts}
 use Rattle.std.proofs.lemmas.List.{length-append, length-map, map-append}
 use Rattle.ipa_spec.specs.Actions.{sorts_of_vars, sorts_of, needs_of, effects_of}
 use Rattle.ipa_spec.specs.Faults as numbered
-use Rattle.ipa_spec.specs.Faults.{has_repeat}
 use Rattle.ipa_spec.specs.Fits.{IsFit, LiteralFits, EffectFits}
 use Rattle.ipa_spec.specs.declared.faults.FaultKind.TheVariants as kind
 use Rattle.ipa_spec.specs.declared.names.Name.{Name}
@@ -22,21 +21,21 @@ use Rattle.ipa_forms.specs.declared.forms.LiteralForm.{LiteralForm}
 use Rattle.ipa_forms.specs.declared.forms.Form.{Form}
 use Rattle.ipa_forms.specs.declared.forms.Form.TheVariants as line
 use Rattle.ipa_canonical.specs.Canonical.{predicate_name, typed_form, literal_form, names_of, args_form, need_form, effect_form, operation_forms}
-use Rattle.ipa_declared.specs.Naming.{last_of, with_last}
-use Rattle.ipa_declared.specs.Scopes.{operation_scope}
-use Rattle.ipa_declared.specs.Declarations.{with_need, with_effect}
+use Rattle.ipa_names.specs.Naming.{last_of, with_last}
+use Rattle.ipa_names.specs.Scopes.{operation_scope}
+use Rattle.ipa_names.specs.Declarations.{with_need, with_effect}
 use Rattle.ipa_reader.specs.Standings.{next_standing}
-use Rattle.ipa_declared.specs.Flaws.{declaration_has, variables_have, literal_has, effect_has, specification_line_has}
-use Rattle.ipa_declared.specs.Counts.{count_above, effects_above, limit_passed}
+use Rattle.ipa_names.specs.Flaws.{declaration_has, variables_have, literal_has, effect_has, specification_line_has}
+use Rattle.ipa_names.specs.Counts.{count_above, effects_above, limit_passed}
 use Rattle.ipa_canonical.specs.Named.{effect_line, operation_lines}
 use Rattle.ipa_canonical.specs.Shapes.{IsShaped}
-use Rattle.ipa_declared.specs.declared.flaws.Flaw.{Flaw}
-use Rattle.ipa_declared.specs.declared.declared.ClauseLine.{ClauseLine}
-use Rattle.ipa_declared.specs.declared.declared.EffectLine.{EffectLine}
-use Rattle.ipa_declared.specs.declared.declared.OperationLines.{OperationLines}
-use Rattle.ipa_declared.specs.declared.declared.Declared.{Declared}
-use Rattle.ipa_declared.specs.ListLaws.{with_last_is}
-use Rattle.ipa_declared.specs.NumberLaws.{slice_get-mapped}
+use Rattle.ipa_names.specs.declared.flaws.Flaw.{Flaw}
+use Rattle.ipa_names.specs.declared.declared.ClauseLine.{ClauseLine}
+use Rattle.ipa_names.specs.declared.declared.EffectLine.{EffectLine}
+use Rattle.ipa_names.specs.declared.declared.OperationLines.{OperationLines}
+use Rattle.ipa_names.specs.declared.declared.Declared.{Declared}
+use Rattle.ipa_names.specs.ListLaws.{with_last_is}
+use Rattle.ipa_names.specs.NumberLaws.{slice_get-mapped}
 use Rattle.ipa_spec.specs.FaultlessFits.{SpecificationParts}
 use Rattle.ipa_canonical.proofs.AcceptedChain.{stand, IsUnrefused, Chain, Onward, no_refusal, each_line, each_chunk}
 use Rattle.ipa_canonical.proofs.AcceptedLimits.{AreInside, count_inside, count_before, one_limit, two_limits}
@@ -74,8 +73,8 @@ module _ (s : Specification) (fit : IsFit s) (flaws : SpecificationParts s) (ins
 
   has_params : numbered.variables_have kind.Duplicate s o.params ≡ false
   has_params =
-      let first = or_parts (numbered.variables_have kind.Duplicate s o.params || list_any (numbered.literal_has kind.Duplicate s.predicates (sorts_of_vars o.params)) o.needs) (list_any (numbered.effect_has kind.Duplicate s.predicates (sorts_of_vars o.params)) o.effects) (flaws.operations n o at kind.Duplicate) in
-      (or_parts (numbered.variables_have kind.Duplicate s o.params) (list_any (numbered.literal_has kind.Duplicate s.predicates (sorts_of_vars o.params)) o.needs) first.0).0
+      let first = or_parts (numbered.variables_have kind.Duplicate s o.params || list_any (numbered.literal_has kind.Duplicate s (sorts_of_vars o.params)) o.needs) (list_any (numbered.effect_has kind.Duplicate s (sorts_of_vars o.params)) o.effects) (flaws.operations n o at kind.Duplicate) in
+      (or_parts (numbered.variables_have kind.Duplicate s o.params) (list_any (numbered.literal_has kind.Duplicate s (sorts_of_vars o.params)) o.needs) first.0).0
 
   sorts : sorts_of s (action.Op n) ≡ sorts_of_vars o.params
   sorts = ap (λ found. option_map_or (λ x. sorts_of_vars x.params) found []) at
@@ -108,8 +107,8 @@ module _ (s : Specification) (fit : IsFit s) (flaws : SpecificationParts s) (ins
       needs_are : needs_of s (action.Op n) ≡ o.needs
       needs_are = ap (λ found. option_map_or (λ x. x.needs) found []) at
 
-      fits : LiteralFits s.predicates (sorts_of_vars o.params) l
-      fits = subst (λ all. LiteralFits s.predicates all l) sorts (fit.needs (action.Op n) k l (ap (λ all. slice_get all k) needs_are ∙ here))
+      fits : LiteralFits s (sorts_of_vars o.params) l
+      fits = subst (λ all. LiteralFits s all l) sorts (fit.needs (action.Op n) k l (ap (λ all. slice_get all k) needs_are ∙ here))
 
       clean : (flaw : Flaw) → specification_line_has flaw (doing (map need_said before) []) (line.Need (need_said l)) ≡ false
       clean flaw = ap (λ scope. literal_has flaw (doing (map need_said before) []) scope (need_said l)) (scope_is (map need_said before) [])
@@ -146,8 +145,8 @@ module _ (s : Specification) (fit : IsFit s) (flaws : SpecificationParts s) (ins
       effects_are : effects_of s (action.Op n) ≡ o.effects
       effects_are = ap (λ found. option_map_or (λ y. y.effects) found []) at
 
-      fits : EffectFits s.predicates (sorts_of_vars o.params) x
-      fits = subst (λ all. EffectFits s.predicates all x) sorts (fit.effects (action.Op n) k x (ap (λ all. slice_get all k) effects_are ∙ here))
+      fits : EffectFits s (sorts_of_vars o.params) x
+      fits = subst (λ all. EffectFits s all x) sorts (fit.effects (action.Op n) k x (ap (λ all. slice_get all k) effects_are ∙ here))
 
       clean : (flaw : Flaw) → effect_has flaw (doing needs (map effect_said before)) (operation_scope (doing needs (map effect_said before))) (effect_said x) ≡ false
       clean flaw = ap (λ scope. effect_has flaw (doing needs (map effect_said before)) scope (effect_said x)) (scope_is needs (map effect_said before))

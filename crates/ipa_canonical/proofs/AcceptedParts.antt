@@ -13,36 +13,40 @@ use Rattle.std.proofs.lemmas.List.{length-map, length-take-le}
 use Rattle.std.proofs.lemmas.Option.{get_or_from_slice_get}
 use Rattle.ipa_spec.specs.Actions.{arity_of, place_sorts}
 use Rattle.ipa_spec.specs.Faults as numbered
-use Rattle.ipa_spec.specs.Faults.{same_name, has_repeat}
+use Rattle.ipa_spec.specs.Faults.{same_name, has_repeat, term_at}
 use Rattle.ipa_spec.specs.Fits.{IsFit, AtomFits, LiteralFits, EffectFits}
 use Rattle.ipa_spec.specs.FoundLaws.{map_at, take_at, declared, said_of, none_of}
 use Rattle.ipa_spec.specs.declared.faults.FaultKind.{FaultKind}
 use Rattle.ipa_spec.specs.declared.faults.FaultKind.TheVariants as kind
+use Rattle.ipa_spec.specs.Constants.{sort_of_term}
+use Rattle.ipa_spec.specs.declared.constants.Term.{Term}
+use Rattle.ipa_spec.specs.declared.constants.Term.TheVariants.{Var as Variable, Const as Fixed}
 use Rattle.ipa_spec.specs.declared.names.Name.{Name}
 use Rattle.ipa_spec.specs.declared.predicates.Predicate.{Predicate}
 use Rattle.ipa_spec.specs.declared.clauses.Atom.{Atom}
 use Rattle.ipa_spec.specs.declared.clauses.Literal.{Literal}
 use Rattle.ipa_spec.specs.declared.clauses.Literal.TheVariants.{Holds, Fails, Same, Differ}
 use Rattle.ipa_spec.specs.declared.operations.Arg.{Arg}
-use Rattle.ipa_spec.specs.declared.operations.Arg.TheVariants.{Var as Parameter, Any}
+use Rattle.ipa_spec.specs.declared.operations.Arg.TheVariants.{Var as Parameter, Const as FixedArg, Any}
 use Rattle.ipa_spec.specs.declared.operations.Effect.{Effect}
 use Rattle.ipa_spec.specs.declared.bounds.Bound.{Bound}
 use Rattle.ipa_spec.specs.declared.specification.Specification.{Specification}
 use Rattle.ipa_forms.specs.declared.forms.Typed.{Typed}
-use Rattle.ipa_canonical.specs.Canonical.{predicate_name, atom_form, literal_form, arg_form, args_form, bound_vars}
-use Rattle.ipa_declared.specs.Scopes.{predicate_named, places_of, sort_of_variable, typed_by_places}
-use Rattle.ipa_declared.specs.Flaws.{arity_named, use_has, list_has, counted_has, place_has, variable_has, atom_has, literal_has, wild_has, argument_place_has, argument_has, effect_has, bound_has}
+use Rattle.ipa_canonical.specs.Canonical.{predicate_name, term_name, atom_form, literal_form, arg_form, args_form, bound_vars}
+use Rattle.ipa_names.specs.Scopes.{predicate_named, places_of, sort_of_variable, typed_by_places}
+use Rattle.ipa_names.specs.Flaws.{arity_named, use_has, list_has, counted_has, place_has, variable_has, atom_has, literal_has, wild_has, argument_place_has, argument_has, effect_has, bound_has}
 use Rattle.ipa_canonical.specs.Named.{predicate_line}
 use Rattle.ipa_canonical.specs.Shapes.{LiteralShaped, IsShaped}
-use Rattle.ipa_declared.specs.declared.flaws.Flaw.{Flaw}
-use Rattle.ipa_declared.specs.declared.flaws.Flaw.TheVariants.{Arity, SortMismatch, UnknownName, Duplicate, WildAdd, FreeVariable}
-use Rattle.ipa_declared.specs.declared.declared.ClauseLine.{ClauseLine}
-use Rattle.ipa_declared.specs.declared.declared.OperationLines.{OperationLines}
-use Rattle.ipa_declared.specs.declared.declared.BoundLines.{BoundLines}
-use Rattle.ipa_declared.specs.declared.declared.Declared.{Declared}
+use Rattle.ipa_names.specs.declared.flaws.Flaw.{Flaw}
+use Rattle.ipa_names.specs.declared.flaws.Flaw.TheVariants.{Arity, SortMismatch, UnknownName, Duplicate, WildAdd, FreeVariable}
+use Rattle.ipa_names.specs.declared.declared.ClauseLine.{ClauseLine}
+use Rattle.ipa_names.specs.declared.declared.OperationLines.{OperationLines}
+use Rattle.ipa_names.specs.declared.declared.BoundLines.{BoundLines}
+use Rattle.ipa_names.specs.declared.declared.Declared.{Declared}
 use Rattle.ipa_spec.specs.FaultlessFits.{SpecificationParts}
+use Rattle.ipa_canonical.proofs.NoConstants.{no_constant}
 use Rattle.ipa_canonical.proofs.Numbers.{find_back, among_first, found_at}
-use Rattle.ipa_declared.specs.NumberLaws.{repeat-map, slice_get-mapped}
+use Rattle.ipa_names.specs.NumberLaws.{repeat-map, slice_get-mapped}
 use Rattle.ipa_canonical.proofs.AcceptedNames.{none_zipped, among_at, use_clean, list_clean, counted_clean, Knows, knows_places, place_clean, variable_clean, comparison_clean}
 
 abbrev pub full : Specification → List ClauseLine → List OperationLines → List BoundLines → Declared
@@ -87,52 +91,62 @@ module _ (s : Specification) (fit : IsFit s) (flaws : SpecificationParts s) (sha
       ap (slice_get s.sorts) number ∙ found_at s.sorts at.0 p.name below ∙ ap (λ x. Some x) at.2
 
   module _ (scope : List Typed) (names : List Name) (nums : List ℕ) (own : Name) (knows : Knows s.sorts scope names nums) where
-    -- the variable in a place of an atom
-    record SaidAt (a : Atom) (p : Predicate) (k : ℕ) (name : Name) : Type 0 where
-      number : ℕ
-      sort : slice_get nums number ≡ Some (slice_index p.sorts k)
-      name_is : slice_index_or names number own ≡ name
+    -- a term that has a sort is a variable of it
+    term_known : (t : Term) (sort : ℕ) (sort_name : Name) → sort_of_term s nums t ≡ Some sort → slice_get s.sorts sort ≡ Some sort_name →
+        sort_of_variable scope (term_name own names t) ≡ Some sort_name
+    term_known (Variable v) sort sort_name e there = knows.each own v sort sort_name e there
+    term_known (Fixed k) sort sort_name e there = absurd (no_constant s fit k sort e)
 
-    said_at : (a : Atom) (fits : AtomFits s.predicates nums a) (k : ℕ) (name : Name) → slice_get (atom_form s.predicates own names a).args k ≡ Some name → SaidAt a fits.predicate k name
+    term_below : (t : Term) (sort : ℕ) → sort_of_term s nums t ≡ Some sort → sort < length s.sorts
+    term_below (Variable v) sort e = knows.declared v sort e
+    term_below (Fixed k) sort e = fit.constant_sort k sort e
+
+    -- the variable in a place of an atom
+    record SaidAt (p : Predicate) (k : ℕ) (name : Name) : Type 0 where
+      below : slice_index p.sorts k < length s.sorts
+      known : (sort : Name) → slice_get s.sorts (slice_index p.sorts k) ≡ Some sort → sort_of_variable scope name ≡ Some sort
+
+    said_at : (a : Atom) (fits : AtomFits s nums a) (k : ℕ) (name : Name) → slice_get (atom_form s.predicates own names a).args k ≡ Some name → SaidAt fits.predicate k name
     said_at a fits k name e =
         let arity : arity_of s.predicates a.predicate ≡ fits.predicate.arity = ap (λ found. option_map_or (λ q. q.arity) found 0) fits.declared in
-        let at = map_at (λ v. slice_index_or names v own) (take (arity_of s.predicates a.predicate) a.args) k name e in
+        let at = map_at (term_name own names) (take (arity_of s.predicates a.predicate) a.args) k name e in
         let taken = take_at (arity_of s.predicates a.predicate) a.args k at.0 at.1 in
-        let number : slice_index a.args k ≡ at.0 = get_or_from_slice_get a.args k at.0 0 taken.1 in
+        let term : term_at a k ≡ at.0 = get_or_from_slice_get a.args k at.0 (Variable 0) taken.1 in
+        let here : sort_of_term s nums at.0 ≡ Some (slice_index fits.predicate.sorts k) =
+        subst (λ t. sort_of_term s nums t ≡ Some (slice_index fits.predicate.sorts k)) term (fits.places k (omega (arith, arity, taken.0))) in
         record {
-          number = at.0;
-          sort = subst (λ v. slice_get nums v ≡ Some (slice_index fits.predicate.sorts k)) number (fits.places k (omega (arith, arity, taken.0)));
-          name_is = at.2;
+          below = term_below at.0 (slice_index fits.predicate.sorts k) here;
+          known = λ sort there. subst (λ x. sort_of_variable scope x ≡ Some sort) at.2 (term_known at.0 (slice_index fits.predicate.sorts k) sort here there);
         }
 
-    atom_clean : (flaw : Flaw) (a : Atom) → AtomFits s.predicates nums a → length a.args ≡ 3 → atom_has flaw (full s cs os bs) scope (atom_form s.predicates own names a) ≡ false
+    atom_clean : (flaw : Flaw) (a : Atom) → AtomFits s nums a → length a.args ≡ 3 → atom_has flaw (full s cs os bs) scope (atom_form s.predicates own names a) ≡ false
     atom_clean flaw a fits wide =
         let p = fits.predicate in
         let arity : arity_of s.predicates a.predicate ≡ p.arity = ap (λ found. option_map_or (λ q. q.arity) found 0) fits.declared in
         let args = (atom_form s.predicates own names a).args in
         let places = places_of (full s cs os bs) (predicate_name s.predicates own a.predicate) in
-        let count : length args ≡ p.arity = length-map (take (arity_of s.predicates a.predicate) a.args) (λ v. slice_index_or names v own) ∙ length-take-le (arity_of s.predicates a.predicate) a.args (omega (arith, arity, wide, fits.short)) ∙ arity in
+        let count : length args ≡ p.arity = length-map (take (arity_of s.predicates a.predicate) a.args) (term_name own names) ∙ length-take-le (arity_of s.predicates a.predicate) a.args (omega (arith, arity, wide, fits.short)) ∙ arity in
         let used = use_clean flaw (arity_named (full s cs os bs) (predicate_name s.predicates own a.predicate)) p.arity (length args) (arity_known own a.predicate p fits.declared) count in
         let placed : list_any (place_has flaw scope) (zip args places) ≡ false =
         ap (λ all. list_any (place_has flaw scope) (zip args all)) (places_known own a.predicate p fits.declared)
         ∙ none_zipped (place_has flaw scope) args (predicate_line s.sorts p).sorts (λ k name sort e f.
         let said = said_at a fits k name e in
-        place_clean flaw scope name sort (subst (λ x. sort_of_variable scope x ≡ Some sort) said.name_is (knows.each own said.number (slice_index p.sorts k) sort said.sort (place_at a.predicate k p sort fits.declared f)))) in
+        place_clean flaw scope name sort (said.known sort (place_at a.predicate k p sort fits.declared f))) in
         let free : list_any (variable_has flaw scope) args ≡ false = none_of (variable_has flaw scope) args (λ k name e.
         let said = said_at a fits k name e in
         let sort = slice_index_or s.sorts (slice_index p.sorts k) own in
-        let there = found_at s.sorts (slice_index p.sorts k) own (knows.declared said.number (slice_index p.sorts k) said.sort) in
-        variable_clean flaw scope name sort (subst (λ x. sort_of_variable scope x ≡ Some sort) said.name_is (knows.each own said.number (slice_index p.sorts k) sort said.sort there))) in
+        variable_clean flaw scope name sort (said.known sort (found_at s.sorts (slice_index p.sorts k) own said.below))) in
         or_from (use_has flaw (arity_named (full s cs os bs) (predicate_name s.predicates own a.predicate)) (length args) || list_any (place_has flaw scope) (zip args places)) (list_any (variable_has flaw scope) args)
         (or_from (use_has flaw (arity_named (full s cs os bs) (predicate_name s.predicates own a.predicate)) (length args)) (list_any (place_has flaw scope) (zip args places)) used placed) free
 
-    compared : (flaw : Flaw) (v w sort : ℕ) → slice_get nums v ≡ Some sort → slice_get nums w ≡ Some sort → literal_has flaw (full s cs os bs) scope (literal_form s.predicates own names (Same v w)) ≡ false
+    compared : (flaw : Flaw) (v w : Term) (sort : ℕ) → sort_of_term s nums v ≡ Some sort → sort_of_term s nums w ≡ Some sort →
+        literal_has flaw (full s cs os bs) scope (literal_form s.predicates own names (Same v w)) ≡ false
     compared flaw v w sort e f =
         let name = slice_index_or s.sorts sort own in
-        let there = found_at s.sorts sort own (knows.declared v sort e) in
-        comparison_clean flaw scope (slice_index_or names v own) (slice_index_or names w own) name (knows.each own v sort name e there) (knows.each own w sort name f there)
+        let there = found_at s.sorts sort own (term_below v sort e) in
+        comparison_clean flaw scope (term_name own names v) (term_name own names w) name (term_known v sort name e there) (term_known w sort name f there)
 
-    pub literal_clean : (flaw : Flaw) (l : Literal) → LiteralFits s.predicates nums l → LiteralShaped l → literal_has flaw (full s cs os bs) scope (literal_form s.predicates own names l) ≡ false
+    pub literal_clean : (flaw : Flaw) (l : Literal) → LiteralFits s nums l → LiteralShaped l → literal_has flaw (full s cs os bs) scope (literal_form s.predicates own names l) ≡ false
     literal_clean flaw (Holds a) fits wide = atom_clean flaw a fits wide
     literal_clean flaw (Fails a) fits wide = atom_clean flaw a fits wide
     literal_clean flaw (Same v w) fits wide = compared flaw v w fits.sort fits.first fits.second
@@ -144,30 +158,39 @@ module _ (s : Specification) (fit : IsFit s) (flaws : SpecificationParts s) (sha
       place : k < p.arity
       stands : slice_index_or e.args k Any ≡ arg
       argument_is : arg_form own names arg ≡ argument
+      not_fixed : (c : ℕ) → arg ≡ FixedArg c → ⊥
 
-    given_at : (e : Effect) (fits : EffectFits s.predicates nums e) (k : ℕ) (argument : Option Name) → slice_get (args_form s.predicates own names e) k ≡ Some argument → GivenAt e fits.predicate k argument
+    given_at : (e : Effect) (fits : EffectFits s nums e) (k : ℕ) (argument : Option Name) → slice_get (args_form s.predicates own names e) k ≡ Some argument → GivenAt e fits.predicate k argument
     given_at e fits k argument is =
         let arity : arity_of s.predicates e.predicate ≡ fits.predicate.arity = ap (λ found. option_map_or (λ q. q.arity) found 0) fits.declared in
         let at = map_at (arg_form own names) (take (arity_of s.predicates e.predicate) e.args) k argument is in
         let taken = take_at (arity_of s.predicates e.predicate) e.args k at.0 at.1 in
+        let here : slice_index_or e.args k Any ≡ at.0 = get_or_from_slice_get e.args k at.0 Any taken.1 in
         record {
           arg = at.0;
           place = omega (arith, arity, taken.0);
-          stands = get_or_from_slice_get e.args k at.0 Any taken.1;
+          stands = here;
           argument_is = at.2;
+          not_fixed = λ c same. no_constant s fit c (slice_index fits.predicate.sorts k) (fits.fixed k c (omega (arith, arity, taken.0)) (here ∙ same));
         }
 
-    place_given : (flaw : Flaw) (arg : Arg) (sort : ℕ) (name : Name) → ((v : ℕ) → arg ≡ Parameter v → slice_get nums v ≡ Some sort) → slice_get s.sorts sort ≡ Some name → argument_place_has flaw scope (arg_form own names arg, name) ≡ false
-    place_given flaw (Parameter v) sort name h is = place_clean flaw scope (slice_index_or names v own) name (knows.each own v sort name (h v refl) is)
-    place_given flaw Any sort name h is = refl
+    place_given : (flaw : Flaw) (arg : Arg) (sort : ℕ) (name : Name) → ((c : ℕ) → arg ≡ FixedArg c → ⊥) →
+        ((v : ℕ) → arg ≡ Parameter v → slice_get nums v ≡ Some sort) → slice_get s.sorts sort ≡ Some name →
+        argument_place_has flaw scope (arg_form own names arg, name) ≡ false
+    place_given flaw (Parameter v) sort name none h is = place_clean flaw scope (slice_index_or names v own) name (knows.each own v sort name (h v refl) is)
+    place_given flaw (FixedArg c) sort name none h is = absurd (none c refl)
+    place_given flaw Any sort name none h is = refl
 
-    use_given : (flaw : Flaw) (add : Bool) (arg : Arg) (sort : ℕ) → ((v : ℕ) → arg ≡ Parameter v → slice_get nums v ≡ Some sort) → (arg ≡ Any → add ≡ false) → argument_has flaw scope add (arg_form own names arg) ≡ false
-    use_given flaw add (Parameter v) sort h wild =
+    use_given : (flaw : Flaw) (add : Bool) (arg : Arg) (sort : ℕ) → ((c : ℕ) → arg ≡ FixedArg c → ⊥) →
+        ((v : ℕ) → arg ≡ Parameter v → slice_get nums v ≡ Some sort) → (arg ≡ Any → add ≡ false) →
+        argument_has flaw scope add (arg_form own names arg) ≡ false
+    use_given flaw add (Parameter v) sort none h wild =
         let there = found_at s.sorts sort own (knows.declared v sort (h v refl)) in
         variable_clean flaw scope (slice_index_or names v own) (slice_index_or s.sorts sort own) (knows.each own v sort (slice_index_or s.sorts sort own) (h v refl) there)
-    use_given flaw add Any sort h wild = wild_clean flaw add (wild refl)
+    use_given flaw add (FixedArg c) sort none h wild = absurd (none c refl)
+    use_given flaw add Any sort none h wild = wild_clean flaw add (wild refl)
 
-    pub effect_clean : (flaw : Flaw) (add : Bool) (e : Effect) → (add ≡ true → e.add ≡ true) → EffectFits s.predicates nums e → length e.args ≡ 3 → effect_has flaw (full s cs os bs) scope (record { add = add; predicate = predicate_name s.predicates own e.predicate; args = args_form s.predicates own names e }) ≡ false
+    pub effect_clean : (flaw : Flaw) (add : Bool) (e : Effect) → (add ≡ true → e.add ≡ true) → EffectFits s nums e → length e.args ≡ 3 → effect_has flaw (full s cs os bs) scope (record { add = add; predicate = predicate_name s.predicates own e.predicate; args = args_form s.predicates own names e }) ≡ false
     effect_clean flaw add e adds fits wide =
         let p = fits.predicate in
         let arity : arity_of s.predicates e.predicate ≡ p.arity = ap (λ found. option_map_or (λ q. q.arity) found 0) fits.declared in
@@ -179,10 +202,10 @@ module _ (s : Specification) (fit : IsFit s) (flaws : SpecificationParts s) (sha
         ap (λ all. list_any (argument_place_has flaw scope) (zip args all)) (places_known own e.predicate p fits.declared)
         ∙ none_zipped (argument_place_has flaw scope) args (predicate_line s.sorts p).sorts (λ k argument sort is f.
         let given = given_at e fits k argument is in
-        subst (λ x. argument_place_has flaw scope (x, sort) ≡ false) given.argument_is (place_given flaw given.arg (slice_index p.sorts k) sort (λ v same. fits.places k v given.place (given.stands ∙ same)) (place_at e.predicate k p sort fits.declared f))) in
+        subst (λ x. argument_place_has flaw scope (x, sort) ≡ false) given.argument_is (place_given flaw given.arg (slice_index p.sorts k) sort given.not_fixed (λ v same. fits.places k v given.place (given.stands ∙ same)) (place_at e.predicate k p sort fits.declared f))) in
         let free : list_any (argument_has flaw scope add) args ≡ false = none_of (argument_has flaw scope add) args (λ k argument is.
         let given = given_at e fits k argument is in
-        subst (λ x. argument_has flaw scope add x ≡ false) given.argument_is (use_given flaw add given.arg (slice_index p.sorts k) (λ v same. fits.places k v given.place (given.stands ∙ same))
+        subst (λ x. argument_has flaw scope add x ≡ false) given.argument_is (use_given flaw add given.arg (slice_index p.sorts k) given.not_fixed (λ v same. fits.places k v given.place (given.stands ∙ same))
         (λ any. none_true add (λ is_add. fits.exact (adds is_add) k given.place (given.stands ∙ any))))) in
         or_from (use_has flaw (arity_named (full s cs os bs) (predicate_name s.predicates own e.predicate)) (length args) || list_any (argument_place_has flaw scope) (zip args places)) (list_any (argument_has flaw scope add) args)
         (or_from (use_has flaw (arity_named (full s cs os bs) (predicate_name s.predicates own e.predicate)) (length args)) (list_any (argument_place_has flaw scope) (zip args places)) used placed) free
@@ -198,7 +221,7 @@ module _ (s : Specification) (fit : IsFit s) (flaws : SpecificationParts s) (sha
   bound_is : (n : ℕ) (b : Bound) → slice_get s.bounds n ≡ Some b → BoundIs b
   bound_is n b e =
       let places_have = λ (k : FaultKind). (or_parts (option_map_or (numbered.bound_places_have k b) (slice_get s.predicates b.predicate) (numbered.undeclared_has k)) (numbered.bound_adds k b)
-      (or_parts (option_map_or (numbered.bound_places_have k b) (slice_get s.predicates b.predicate) (numbered.undeclared_has k) || numbered.bound_adds k b) (list_any (numbered.effect_has k s.predicates (place_sorts s.predicates b.predicate)) b.removes) (flaws.bounds n b e k)).0).0 in
+      (or_parts (option_map_or (numbered.bound_places_have k b) (slice_get s.predicates b.predicate) (numbered.undeclared_has k) || numbered.bound_adds k b) (list_any (numbered.effect_has k s (place_sorts s.predicates b.predicate)) b.removes) (flaws.bounds n b e k)).0).0 in
       let found = declared (numbered.bound_places_have kind.UnknownName b) (slice_get s.predicates b.predicate) (places_have kind.UnknownName) in
       let p = found.0 in
       let arity : arity_of s.predicates b.predicate ≡ p.arity = ap (λ f. option_map_or (λ q. q.arity) f 0) found.1 in

@@ -13,15 +13,15 @@ use Rattle.ipa_spec.specs.Actions.{sorts_of_vars}
 use Rattle.ipa_spec.specs.declared.specification.Specification.{Specification}
 use Rattle.ipa_text.specs.Lines.{line_text, lines_of, last_line}
 use Rattle.ipa_text.specs.declared.numbering.Line.{Line}
-use Rattle.ipa_logic.specs.Facts.{has}
+use Rattle.ipa_logic.specs.Facts.{has, IsStateOf}
 use Rattle.ipa_logic.specs.Truth.{Keeps}
 use Rattle.ipa_logic.specs.declared.facts.Broken.{Broken}
 use Rattle.ipa_forms.specs.Layout.{line_of}
 use Rattle.ipa_forms.specs.declared.forms.Form.{Form}
 use Rattle.ipa_canonical.specs.Canonical.{canonical_text, forms_of}
 use Rattle.ipa_canonical.specs.Sentences.{IsSaidBy}
-use Rattle.ipa_declared.specs.Meaning.{specification_of}
-use Rattle.ipa_reader.specs.Setups.{size_list, IsSetup, IsStateOf, IsRefusedAtEnd, IsNamed, IsKept, element_names}
+use Rattle.ipa_names.specs.Meaning.{specification_of}
+use Rattle.ipa_reader.specs.Setups.{size_list, IsSetup, IsRefusedAtEnd, IsNamed, IsKept, element_names}
 use Rattle.ipa_reader.specs.Standings.{standing_of}
 use Rattle.ipa_reader.specs.Documents.{Says, SayEach, AreAccepted, ReadsAs, IsRefused}
 use Rattle.ipa_reader.specs.Documents.IsRefused.{at_end}
@@ -47,9 +47,9 @@ says_each bytes (l ∷ lines) (f ∷ fs) e h =
     let tail : map (line_text bytes) lines ≡ map line_of fs = cc in
     (says (line_text bytes l) (line_of f) f head h.0, says_each bytes lines fs tail h.1)
 
-no_facts : IsStateOf [] []
+no_facts : IsStateOf (has []) []
 unfolding IsStrictlySortedBy
-no_facts = record { rising = tt; members = λ f. refl }
+no_facts = record { rising = tt; facts = λ f. refl }
 
 setup_alone : IsSetup no_elements [] 1 []
 setup_alone = record {
@@ -91,7 +91,7 @@ module _ (s : Specification) (printed : Printed s) where
             spec = sym printed.back;
             elements = sym (ap (λ a. a.elements) arranged);
             universe = sym (ap (λ a. size_list a.elements) arranged);
-            base = subst (λ a. IsStateOf a.facts []) (sym arranged) no_facts;
+            base = subst (λ a. IsStateOf (has a.facts) []) (sym arranged) no_facts;
             replicas = sym (ap (λ a. a.replicas) arranged);
             sessions = sym (ap (λ a. a.sessions) arranged);
           };
@@ -120,7 +120,7 @@ module _ (s : Specification) (printed : Printed s) where
           said = printed.said;
           accepted = printed.accepted;
           state = [];
-          base = subst (λ a. IsStateOf a.facts []) (sym arranged) no_facts;
+          base = subst (λ a. IsStateOf (has a.facts) []) (sym arranged) no_facts;
           number_is = refl;
           refused = subst (λ a. IsRefusedAtEnd (specification_of (standing_of (forms_of s)).declared) a.elements [] (BaseClause broken name names)) (sym arranged) by_spec;
         });
@@ -131,7 +131,7 @@ pub kept_back : (s : Specification) → IsReadBack s → Keeps s no_elements is_
 kept_back s h =
     let d = h.document in
     let sizes : d.setup.universe.sizes ≡ no_elements = h.reads.document_is.universe ∙ sym (ap size_list h.reads.document_is.elements) ∙ ap size_list h.alone.elements in
-    let facts : has d.setup.base ≡ is_no_fact = λ i f. h.alone.base.members f i in
+    let facts : has d.setup.base ≡ is_no_fact = λ i f. h.alone.base.facts f i in
     subst (λ t. Keeps s no_elements t) facts
     (subst (λ all. Keeps s all (has d.setup.base)) sizes
     (subst (λ x. Keeps x d.setup.universe.sizes (has d.setup.base)) h.alone.spec h.reads.kept.clauses))

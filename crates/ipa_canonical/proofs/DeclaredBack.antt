@@ -14,17 +14,17 @@ use Rattle.ipa_spec.specs.declared.bounds.Bound.{Bound}
 use Rattle.ipa_spec.specs.declared.specification.Specification.{Specification}
 use Rattle.ipa_forms.specs.declared.forms.Form.{Form}
 use Rattle.ipa_forms.specs.declared.forms.Form.TheVariants as line
-use Rattle.ipa_declared.specs.Naming.{with_last}
-use Rattle.ipa_declared.specs.Declarations.{nothing_declared, with_declaration, declared_of, with_need, with_effect, with_remove}
+use Rattle.ipa_names.specs.Naming.{with_last}
+use Rattle.ipa_names.specs.Declarations.{nothing_declared, with_declaration, declared_of, with_need, with_effect, with_remove}
 use Rattle.ipa_reader.specs.Arrangements.{nothing_arranged, with_arrangement}
 use Rattle.ipa_reader.specs.Standings.{with_said, standing_of}
-use Rattle.ipa_declared.specs.declared.declared.OperationLines.{OperationLines}
-use Rattle.ipa_declared.specs.declared.declared.BoundLines.{BoundLines}
-use Rattle.ipa_declared.specs.declared.declared.Declared.{Declared}
+use Rattle.ipa_names.specs.declared.declared.OperationLines.{OperationLines}
+use Rattle.ipa_names.specs.declared.declared.BoundLines.{BoundLines}
+use Rattle.ipa_names.specs.declared.declared.Declared.{Declared}
 use Rattle.ipa_reader.specs.declared.standing.Arranged.{Arranged}
 use Rattle.ipa_canonical.specs.Canonical.{predicate_name, args_form, pred_form, clause_form, typed_form, literal_form, names_of, need_form, effect_form, remove_form, operation_forms, bound_forms, bound_vars, forms_of}
 use Rattle.ipa_canonical.specs.Named.{predicate_line, clause_line, effect_line, remove_line, operation_lines, bound_lines, named}
-use Rattle.ipa_declared.specs.ListLaws.{with_last-append}
+use Rattle.ipa_names.specs.ListLaws.{with_last-append}
 
 -- what lines declare behind others
 abbrev behind : Declared → List Form → Declared

@@ -1,3 +1,4 @@
+pub mod NoConstants
 pub mod TextLemmas
 pub mod PlainLemmas
 pub mod LineLemmas

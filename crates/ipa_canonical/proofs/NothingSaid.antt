@@ -13,10 +13,10 @@ use Rattle.ipa_spec.specs.declared.specification.Specification.{Specification}
 use Rattle.ipa_forms.specs.declared.forms.Form.{Form}
 use Rattle.ipa_forms.specs.declared.forms.Form.TheVariants.{Sort, Pred, Clause, Op, Need, Add, Del, Bound as BoundLine, Drops, Elem, Base, Replicas, Session, Do, Show}
 use Rattle.ipa_reader.specs.Ordering.{is_setup}
-use Rattle.ipa_declared.specs.Declarations.{nothing_declared, with_declaration}
+use Rattle.ipa_names.specs.Declarations.{nothing_declared, with_declaration}
 use Rattle.ipa_reader.specs.Arrangements.{nothing_arranged, with_arrangement}
 use Rattle.ipa_reader.specs.Standings.{with_said, standing_of}
-use Rattle.ipa_declared.specs.declared.declared.Declared.{Declared}
+use Rattle.ipa_names.specs.declared.declared.Declared.{Declared}
 use Rattle.ipa_reader.specs.declared.standing.Arranged.{Arranged}
 use Rattle.ipa_canonical.specs.Canonical.{predicate_name, args_form, pred_form, clause_form, names_of, need_form, effect_form, remove_form, operation_forms, bound_forms, bound_vars, forms_of}
 

@@ -2,23 +2,21 @@
 --
 --   number_back        the number of the name of a number, among names of which none stands twice
 --   find_back          what is found by the name of a number
---   three_back         the numbers in three places
---   args_back          the arguments in three places
+--   first_three        the items in three places
+--   three_back         these are read again
 --   names_back         the names in three places
 --   found_at           the item at a place below the length
 --   typed_names        the names of variables with the sorts of places
 --   among_first        what stands among the first of a list
-use Rattle.std.proofs.Common.{◌≡◌, ℕ, zero, suc, ◌+◌, ◌<◌, ◌≤◌, Bool, true, false, cond, not, ltb, List, [], ◌∷◌, length, map, take, slice_index, Option, Some, None, unwrap_or, refl, sym, ap, subst, ◌∙◌, arith}
+use Rattle.std.proofs.Common.{◌≡◌, ℕ, zero, suc, ◌+◌, ◌<◌, ◌≤◌, Bool, true, false, cond, not, ltb, List, [], ◌∷◌, length, map, take, Option, Some, None, unwrap_or, refl, sym, ap, subst, ◌∙◌, arith}
 use Rattle.std.specs.List.{slice_get, slice_index_or, list_any, find, prefix_len}
 use Rattle.std.proofs.lemmas.Bool.{lt-ltb, or_parts}
 use Rattle.std.proofs.lemmas.Option.{same_Some}
 use Rattle.ipa_spec.specs.Faults.{same_name, has_repeat}
 use Rattle.ipa_spec.specs.declared.names.Name.{Name}
-use Rattle.ipa_spec.specs.declared.operations.Arg.{Arg}
-use Rattle.ipa_spec.specs.declared.operations.Arg.TheVariants.{Any}
-use Rattle.ipa_declared.specs.Naming.{number_or_count}
-use Rattle.ipa_declared.specs.Scopes.{typed_by_places}
-use Rattle.ipa_declared.specs.Meaning.{three, three_args, three_names}
+use Rattle.ipa_names.specs.Naming.{number_or_count}
+use Rattle.ipa_names.specs.Scopes.{typed_by_places}
+use Rattle.ipa_names.specs.Meaning.{three_names}
 use Rattle.ipa_spec.specs.NameLaws.{same_name-refl}
 
 -- of things of which none has another's name, the first has no later one's
@@ -75,29 +73,23 @@ find_back name_of (y ∷ xs) h (suc n) x e =
 same_three : {X : Type 0} {a b c x y z : X} → a ≡ x → b ≡ y → c ≡ z → ◌≡◌ {A = List X} (a ∷ b ∷ c ∷ []) (x ∷ y ∷ z ∷ [])
 same_three e f g = λ i. e i ∷ f i ∷ g i ∷ []
 
--- numbers up to a count, and 0 past it
-pub three_back : {X : Type 0} (f : X → ℕ) (g : ℕ → X) (ns : List ℕ) (a : ℕ) → length ns ≡ 3 → a ≤ 3 → ((k : ℕ) → k < a → f (g (slice_index ns k)) ≡ slice_index ns k) → ((k : ℕ) → a ≤ k → k < 3 → slice_index ns k ≡ 0) → three (map f (map g (take a ns))) ≡ ns
-three_back f g [] a e l h u = absurd (omega arith)
-three_back f g (x ∷ []) a e l h u = absurd (omega arith)
-three_back f g (x ∷ y ∷ []) a e l h u = absurd (omega arith)
-three_back f g (x ∷ y ∷ z ∷ w ∷ ns) a e l h u = absurd (omega arith)
-three_back f g (x ∷ y ∷ z ∷ []) zero e l h u = same_three (sym (u 0 (omega arith) (omega arith))) (sym (u 1 (omega arith) (omega arith))) (sym (u 2 (omega arith) (omega arith)))
-three_back f g (x ∷ y ∷ z ∷ []) (suc zero) e l h u = same_three (h 0 (omega arith)) (sym (u 1 (omega arith) (omega arith))) (sym (u 2 (omega arith) (omega arith)))
-three_back f g (x ∷ y ∷ z ∷ []) (suc (suc zero)) e l h u = same_three (h 0 (omega arith)) (h 1 (omega arith)) (sym (u 2 (omega arith) (omega arith)))
-three_back f g (x ∷ y ∷ z ∷ []) (suc (suc (suc zero))) e l h u = same_three (h 0 (omega arith)) (h 1 (omega arith)) (h 2 (omega arith))
-three_back f g (x ∷ y ∷ z ∷ []) (suc (suc (suc (suc a)))) e l h u = absurd (omega arith)
+-- the items in three places, and another past the end
+abbrev pub first_three : {Y : Type 0} → Y → List Y → List Y
+first_three other ys = slice_index_or ys 0 other ∷ slice_index_or ys 1 other ∷ slice_index_or ys 2 other ∷ []
 
--- arguments up to a count, and `*` past it
-pub args_back : {X : Type 0} (f : X → Arg) (g : Arg → X) (es : List Arg) (a : ℕ) → length es ≡ 3 → a ≤ 3 → ((k : ℕ) → k < a → f (g (slice_index_or es k Any)) ≡ slice_index_or es k Any) → ((k : ℕ) → a ≤ k → k < 3 → slice_index_or es k Any ≡ Any) → three_args (map f (map g (take a es))) ≡ es
-args_back f g [] a e l h u = absurd (omega arith)
-args_back f g (x ∷ []) a e l h u = absurd (omega arith)
-args_back f g (x ∷ y ∷ []) a e l h u = absurd (omega arith)
-args_back f g (x ∷ y ∷ z ∷ w ∷ ns) a e l h u = absurd (omega arith)
-args_back f g (x ∷ y ∷ z ∷ []) zero e l h u = same_three (sym (u 0 (omega arith) (omega arith))) (sym (u 1 (omega arith) (omega arith))) (sym (u 2 (omega arith) (omega arith)))
-args_back f g (x ∷ y ∷ z ∷ []) (suc zero) e l h u = same_three (h 0 (omega arith)) (sym (u 1 (omega arith) (omega arith))) (sym (u 2 (omega arith) (omega arith)))
-args_back f g (x ∷ y ∷ z ∷ []) (suc (suc zero)) e l h u = same_three (h 0 (omega arith)) (h 1 (omega arith)) (sym (u 2 (omega arith) (omega arith)))
-args_back f g (x ∷ y ∷ z ∷ []) (suc (suc (suc zero))) e l h u = same_three (h 0 (omega arith)) (h 1 (omega arith)) (h 2 (omega arith))
-args_back f g (x ∷ y ∷ z ∷ []) (suc (suc (suc (suc a)))) e l h u = absurd (omega arith)
+-- items up to a count, and another past it
+pub three_back : {X Y : Type 0} (f : X → Y) (g : Y → X) (other : Y) (ns : List Y) (a : ℕ) → length ns ≡ 3 → a ≤ 3 →
+    ((k : ℕ) → k < a → f (g (slice_index_or ns k other)) ≡ slice_index_or ns k other) →
+    ((k : ℕ) → a ≤ k → k < 3 → slice_index_or ns k other ≡ other) → first_three other (map f (map g (take a ns))) ≡ ns
+three_back f g other [] a e l h u = absurd (omega arith)
+three_back f g other (x ∷ []) a e l h u = absurd (omega arith)
+three_back f g other (x ∷ y ∷ []) a e l h u = absurd (omega arith)
+three_back f g other (x ∷ y ∷ z ∷ w ∷ ns) a e l h u = absurd (omega arith)
+three_back f g other (x ∷ y ∷ z ∷ []) zero e l h u = same_three (sym (u 0 (omega arith) (omega arith))) (sym (u 1 (omega arith) (omega arith))) (sym (u 2 (omega arith) (omega arith)))
+three_back f g other (x ∷ y ∷ z ∷ []) (suc zero) e l h u = same_three (h 0 (omega arith)) (sym (u 1 (omega arith) (omega arith))) (sym (u 2 (omega arith) (omega arith)))
+three_back f g other (x ∷ y ∷ z ∷ []) (suc (suc zero)) e l h u = same_three (h 0 (omega arith)) (h 1 (omega arith)) (sym (u 2 (omega arith) (omega arith)))
+three_back f g other (x ∷ y ∷ z ∷ []) (suc (suc (suc zero))) e l h u = same_three (h 0 (omega arith)) (h 1 (omega arith)) (h 2 (omega arith))
+three_back f g other (x ∷ y ∷ z ∷ []) (suc (suc (suc (suc a)))) e l h u = absurd (omega arith)
 
 -- one name or more up to a count, and the first of them past it
 pub names_back : (own : Name) (ns : List Name) (a : ℕ) → length ns ≡ 3 → a ≤ 3 → 0 < a → ((k : ℕ) → a ≤ k → k < 3 → slice_index_or ns k own ≡ slice_index_or ns 0 own) → three_names own (take a ns) ≡ ns

@@ -15,6 +15,9 @@ use Rattle.ipa_spec.specs.Fits.{IsFit, AtomFits, LiteralFits, EffectFits}
 use Rattle.ipa_spec.specs.FoundLaws.{list_any-false, declared, said_of}
 use Rattle.ipa_spec.specs.declared.faults.FaultKind.{FaultKind}
 use Rattle.ipa_spec.specs.declared.faults.FaultKind.TheVariants as kind
+use Rattle.ipa_spec.specs.Constants.{sort_of_constant, sort_of_term}
+use Rattle.ipa_spec.specs.declared.constants.Term.{Term}
+use Rattle.ipa_spec.specs.declared.constants.Term.TheVariants.{Var as Variable, Const as Fixed}
 use Rattle.ipa_spec.specs.declared.names.Name.{Name}
 use Rattle.ipa_spec.specs.declared.predicates.Predicate.{Predicate}
 use Rattle.ipa_spec.specs.declared.predicates.Var.{Var}
@@ -23,22 +26,23 @@ use Rattle.ipa_spec.specs.declared.clauses.Literal.{Literal}
 use Rattle.ipa_spec.specs.declared.clauses.Literal.TheVariants.{Holds, Fails, Same, Differ}
 use Rattle.ipa_spec.specs.declared.clauses.Clause.{Clause}
 use Rattle.ipa_spec.specs.declared.operations.Arg.{Arg}
-use Rattle.ipa_spec.specs.declared.operations.Arg.TheVariants.{Var as Parameter, Any}
+use Rattle.ipa_spec.specs.declared.operations.Arg.TheVariants.{Var as Parameter, Const as FixedArg, Any}
 use Rattle.ipa_spec.specs.declared.operations.Effect.{Effect}
 use Rattle.ipa_spec.specs.declared.operations.Operation.{Operation}
 use Rattle.ipa_spec.specs.declared.operations.Action.TheVariants.{Op, Drop}
 use Rattle.ipa_spec.specs.declared.bounds.Bound.{Bound}
 use Rattle.ipa_spec.specs.declared.specification.Specification.{Specification}
 use Rattle.ipa_forms.specs.declared.forms.Typed.{Typed}
-use Rattle.ipa_declared.specs.Naming.{number_or_count}
-use Rattle.ipa_declared.specs.Scopes.{places_of, bound_variables}
-use Rattle.ipa_declared.specs.Meaning.{predicate_number, sort_number, variable_number, predicate_of, var_of, atom_of, literal_of, clause_of, arg_of, effect_of, operation_of, bound_of, specification_of}
-use Rattle.ipa_canonical.specs.Canonical.{predicate_name, typed_form, atom_form, literal_form, names_of, arg_form, bound_vars}
+use Rattle.ipa_names.specs.Naming.{number_or_count}
+use Rattle.ipa_names.specs.Scopes.{places_of, bound_variables}
+use Rattle.ipa_names.specs.Meaning.{predicate_number, sort_number, variable_number, term_of, predicate_of, var_of, atom_of, literal_of, clause_of, arg_of, effect_of, operation_of, bound_of, specification_of}
+use Rattle.ipa_canonical.specs.Canonical.{predicate_name, typed_form, term_name, atom_form, literal_form, names_of, arg_form, bound_vars}
 use Rattle.ipa_canonical.specs.Named.{predicate_line, clause_line, effect_line, remove_line, operation_lines, bound_lines, named}
 use Rattle.ipa_canonical.specs.Shapes.{LiteralShaped, IsShaped}
-use Rattle.ipa_canonical.proofs.Numbers.{number_back, find_back, three_back, args_back, names_back, each_back, among_first, found_at, typed_names}
-use Rattle.ipa_declared.specs.NumberLaws.{repeat-map, slice_get-mapped}
+use Rattle.ipa_canonical.proofs.Numbers.{number_back, find_back, three_back, names_back, each_back, among_first, found_at, typed_names}
+use Rattle.ipa_names.specs.NumberLaws.{repeat-map, slice_get-mapped}
 use Rattle.ipa_spec.specs.FaultlessFits.{SpecificationParts}
+use Rattle.ipa_canonical.proofs.NoConstants.{no_constant}
 use Rattle.ipa_canonical.proofs.UnusedPlaces.{drop_zero, drop_same, place_unused}
 
 -- the further removes of a bound are the later effects of its drop
@@ -62,7 +66,7 @@ module _ (s : Specification) (fit : IsFit s) (flaws : SpecificationParts s) (sha
       let short = fit.arities n p e in
       let name_at = λ (k : ℕ). slice_index_or s.sorts k p.name in
       let arity : length (map name_at (take p.arity p.sorts)) ≡ p.arity = length-map (take p.arity p.sorts) name_at ∙ length-take-le p.arity p.sorts (omega (arith, wide, short)) in
-      let sorts = three_back (sort_number (named s)) name_at p.sorts p.arity wide short
+      let sorts = three_back (sort_number (named s)) name_at 0 p.sorts p.arity wide short
       (λ k l. sort_back p.name (slice_index p.sorts k) (fit.place_sort n k p e l))
       (λ k l m. drop_zero p.arity p.sorts (flaws.predicates n p e kind.Arity) k l) in
       λ i. record { name = p.name; arity = arity i; sorts = sorts i; rule = p.rule }
@@ -83,38 +87,44 @@ module _ (s : Specification) (fit : IsFit s) (flaws : SpecificationParts s) (sha
         ap (λ ns. number_or_count ns (slice_index_or names v own)) same
         ∙ number_back names apart v (omega (arith, as_many, slice_get_within sorts v sort e)) own
 
-    atom_back : (a : Atom) → AtomFits s.predicates sorts a → length a.args ≡ 3 → numbered.atom_has kind.Arity s.predicates sorts a ≡ false → atom_of (named s) scope (atom_form s.predicates own names a) ≡ a
+    term_back : (t : Term) (sort : ℕ) → sort_of_term s sorts t ≡ Some sort → term_of scope (term_name own names t) ≡ t
+    term_back (Variable v) sort e = ap (λ n. Variable n) (variable_back v sort e)
+    term_back (Fixed k) sort e = absurd (no_constant s fit k sort e)
+
+    atom_back : (a : Atom) → AtomFits s sorts a → length a.args ≡ 3 → numbered.atom_has kind.Arity s sorts a ≡ false → atom_of (named s) scope (atom_form s.predicates own names a) ≡ a
     atom_back a fits wide whole =
         let p = fits.predicate in
         let arity : arity_of s.predicates a.predicate ≡ p.arity = ap (λ found. option_map_or (λ q. q.arity) found 0) fits.declared in
-        let unused = said_of (λ q. numbered.some_place (numbered.atom_place_has kind.Arity sorts q a.args)) (numbered.undeclared_has kind.Arity) (slice_get s.predicates a.predicate) p fits.declared whole in
+        let unused = said_of (λ q. numbered.some_place (numbered.atom_place_has kind.Arity s sorts q a)) (numbered.undeclared_has kind.Arity) (slice_get s.predicates a.predicate) p fits.declared whole in
         let number = predicate_number_back own a.predicate p fits.declared in
-        let args = three_back (variable_number scope) (λ k. slice_index_or names k own) a.args (arity_of s.predicates a.predicate) wide (omega (arith, arity, fits.short))
-        (λ k l. variable_back (slice_index a.args k) _ (fits.places k (omega (arith, arity, l))))
-        (λ k l m. place_unused (λ place. numbered.variable_has kind.Arity sorts (slice_index p.sorts place) (slice_index a.args place)) p.arity a.args unused k (omega (arith, arity, l)) m) in
+        let args = three_back (term_of scope) (term_name own names) (Variable 0) a.args (arity_of s.predicates a.predicate) wide (omega (arith, arity, fits.short))
+        (λ k l. term_back (numbered.term_at a k) (slice_index p.sorts k) (fits.places k (omega (arith, arity, l))))
+        (λ k l m. place_unused (λ place. numbered.term_has kind.Arity s sorts (slice_index p.sorts place) (numbered.term_at a place)) p.arity a unused k (omega (arith, arity, l)) m) in
         λ i. record { predicate = number i; args = args i }
 
-    literal_back : (l : Literal) → LiteralFits s.predicates sorts l → LiteralShaped l → numbered.literal_has kind.Arity s.predicates sorts l ≡ false → literal_of (named s) scope (literal_form s.predicates own names l) ≡ l
+    literal_back : (l : Literal) → LiteralFits s sorts l → LiteralShaped l → numbered.literal_has kind.Arity s sorts l ≡ false → literal_of (named s) scope (literal_form s.predicates own names l) ≡ l
     literal_back (Holds a) fits wide whole = ap (λ x. Holds x) (atom_back a fits wide whole)
     literal_back (Fails a) fits wide whole = ap (λ x. Fails x) (atom_back a fits wide whole)
-    literal_back (Same v w) fits wide whole = λ i. Same (variable_back v fits.sort fits.first i) (variable_back w fits.sort fits.second i)
-    literal_back (Differ v w) fits wide whole = λ i. Differ (variable_back v fits.sort fits.first i) (variable_back w fits.sort fits.second i)
+    literal_back (Same v w) fits wide whole = λ i. Same (term_back v fits.sort fits.first i) (term_back w fits.sort fits.second i)
+    literal_back (Differ v w) fits wide whole = λ i. Differ (term_back v fits.sort fits.first i) (term_back w fits.sort fits.second i)
 
-    arg_back : (arg : Arg) → ((v : ℕ) → arg ≡ Parameter v → (sort : ℕ) × (slice_get sorts v ≡ Some sort)) → arg_of scope (arg_form own names arg) ≡ arg
-    arg_back (Parameter v) h = let at = h v refl in ap (λ k. Parameter k) (variable_back v at.0 at.1)
-    arg_back Any h = refl
+    arg_back : (arg : Arg) (sort : ℕ) → ((v : ℕ) → arg ≡ Parameter v → slice_get sorts v ≡ Some sort) →
+        ((k : ℕ) → arg ≡ FixedArg k → sort_of_constant s k ≡ Some sort) → arg_of scope (arg_form own names arg) ≡ arg
+    arg_back (Parameter v) sort h fixed = ap (λ k. Parameter k) (variable_back v sort (h v refl))
+    arg_back (FixedArg k) sort h fixed = absurd (no_constant s fit k sort (fixed k refl))
+    arg_back Any sort h fixed = refl
 
-    args_said_back : (e : Effect) → EffectFits s.predicates sorts e → length e.args ≡ 3 → effect_of (named s) scope (effect_line s.predicates own names e) ≡ e
+    args_said_back : (e : Effect) → EffectFits s sorts e → length e.args ≡ 3 → effect_of (named s) scope (effect_line s.predicates own names e) ≡ e
     args_said_back e fits wide =
         let p = fits.predicate in
         let arity : arity_of s.predicates e.predicate ≡ p.arity = ap (λ found. option_map_or (λ q. q.arity) found 0) fits.declared in
         let number = predicate_number_back own e.predicate p fits.declared in
-        let args = args_back (arg_of scope) (arg_form own names) e.args (arity_of s.predicates e.predicate) wide (omega (arith, arity, fits.short))
-        (λ k l. arg_back (slice_index_or e.args k Any) (λ v is. (slice_index p.sorts k, fits.places k v (omega (arith, arity, l)) is)))
+        let args = three_back (arg_of scope) (arg_form own names) Any e.args (arity_of s.predicates e.predicate) wide (omega (arith, arity, fits.short))
+        (λ k l. arg_back (slice_index_or e.args k Any) (slice_index p.sorts k) (λ v is. fits.places k v (omega (arith, arity, l)) is) (λ c is. fits.fixed k c (omega (arith, arity, l)) is))
         (λ k l m. fits.unused k (omega (arith, arity, l)) m) in
         λ i. record { add = e.add; predicate = number i; args = args i }
 
-    remove_back : (e : Effect) → EffectFits s.predicates sorts e → length e.args ≡ 3 → e.add ≡ false → effect_of (named s) scope (remove_line s.predicates own names e) ≡ e
+    remove_back : (e : Effect) → EffectFits s sorts e → length e.args ≡ 3 → e.add ≡ false → effect_of (named s) scope (remove_line s.predicates own names e) ≡ e
     remove_back e fits wide removing =
         let back = args_said_back e fits wide in
         λ i. record { add = sym removing i; predicate = (back i).predicate; args = (back i).args }
@@ -131,18 +141,18 @@ module _ (s : Specification) (fit : IsFit s) (flaws : SpecificationParts s) (sha
 
   clause_back : (n : ℕ) (c : Clause) → slice_get s.clauses n ≡ Some c → clause_of (named s) (clause_line s.sorts s.predicates c) ≡ c
   clause_back n c e =
-      let has = λ (k : FaultKind). or_parts (numbered.variables_have k s c.vars) (list_any (numbered.literal_has k s.predicates (sorts_of_vars c.vars)) c.literals) (flaws.clauses n c e k) in
+      let has = λ (k : FaultKind). or_parts (numbered.variables_have k s c.vars) (list_any (numbered.literal_has k s (sorts_of_vars c.vars)) c.literals) (flaws.clauses n c e k) in
       let apart = repeat-map (λ name. name) (λ v. v.name) c.vars ∙ (has kind.Duplicate).0 in
       let vars = each_back (var_of (named s)) (typed_form s.sorts) c.vars (λ k v is. var_back v (fit.variable_sort n k v.sort c e (slice_get-mapped (λ x. x.sort) c.vars k v is))) in
       let literals = each_back (literal_of (named s) (map (typed_form s.sorts) c.vars)) (literal_form s.predicates c.name (names_of c.vars)) c.literals
       (λ k l is. literal_back (map (typed_form s.sorts) c.vars) (names_of c.vars) (sorts_of_vars c.vars) c.name (said_names c.vars) apart (counts c.vars) l (fit.literals n k c l e is) (shaped.literals n k c l e is)
-      (list_any-false (numbered.literal_has kind.Arity s.predicates (sorts_of_vars c.vars)) c.literals (has kind.Arity).1 k l is)) in
+      (list_any-false (numbered.literal_has kind.Arity s (sorts_of_vars c.vars)) c.literals (has kind.Arity).1 k l is)) in
       λ i. record { name = c.name; vars = vars i; literals = literals i }
 
   operation_back : (n : ℕ) (o : Operation) → slice_get s.operations n ≡ Some o → operation_of (named s) (operation_lines s.sorts s.predicates o) ≡ o
   operation_back n o e =
-      let has2 = λ (k : FaultKind). or_parts (numbered.variables_have k s o.params || list_any (numbered.literal_has k s.predicates (sorts_of_vars o.params)) o.needs) (list_any (numbered.effect_has k s.predicates (sorts_of_vars o.params)) o.effects) (flaws.operations n o e k) in
-      let has = λ (k : FaultKind). or_parts (numbered.variables_have k s o.params) (list_any (numbered.literal_has k s.predicates (sorts_of_vars o.params)) o.needs) (has2 k).0 in
+      let has2 = λ (k : FaultKind). or_parts (numbered.variables_have k s o.params || list_any (numbered.literal_has k s (sorts_of_vars o.params)) o.needs) (list_any (numbered.effect_has k s (sorts_of_vars o.params)) o.effects) (flaws.operations n o e k) in
+      let has = λ (k : FaultKind). or_parts (numbered.variables_have k s o.params) (list_any (numbered.literal_has k s (sorts_of_vars o.params)) o.needs) (has2 k).0 in
       let apart = repeat-map (λ name. name) (λ v. v.name) o.params ∙ (has kind.Duplicate).0 in
       let sorts : sorts_of s (Op n) ≡ sorts_of_vars o.params = ap (λ found. option_map_or (λ x. sorts_of_vars x.params) found []) e in
       let needs_are : needs_of s (Op n) ≡ o.needs = ap (λ found. option_map_or (λ x. x.needs) found []) e in
@@ -150,18 +160,18 @@ module _ (s : Specification) (fit : IsFit s) (flaws : SpecificationParts s) (sha
       let params = each_back (var_of (named s)) (typed_form s.sorts) o.params (λ k v is. var_back v (fit.argument_sort (Op n) k v.sort (ap (λ all. slice_get all k) sorts ∙ slice_get-mapped (λ x. x.sort) o.params k v is))) in
       let needs = each_back (literal_of (named s) (map (typed_form s.sorts) o.params)) (literal_form s.predicates o.name (names_of o.params)) o.needs
       (λ k l is. literal_back (map (typed_form s.sorts) o.params) (names_of o.params) (sorts_of_vars o.params) o.name (said_names o.params) apart (counts o.params) l
-      (subst (λ all. LiteralFits s.predicates all l) sorts (fit.needs (Op n) k l (ap (λ all. slice_get all k) needs_are ∙ is))) (shaped.needs n k o l e is)
-      (list_any-false (numbered.literal_has kind.Arity s.predicates (sorts_of_vars o.params)) o.needs (has kind.Arity).1 k l is)) in
+      (subst (λ all. LiteralFits s all l) sorts (fit.needs (Op n) k l (ap (λ all. slice_get all k) needs_are ∙ is))) (shaped.needs n k o l e is)
+      (list_any-false (numbered.literal_has kind.Arity s (sorts_of_vars o.params)) o.needs (has kind.Arity).1 k l is)) in
       let effects = each_back (effect_of (named s) (map (typed_form s.sorts) o.params)) (effect_line s.predicates o.name (names_of o.params)) o.effects
       (λ k effect is. args_said_back (map (typed_form s.sorts) o.params) (names_of o.params) (sorts_of_vars o.params) o.name (said_names o.params) apart (counts o.params) effect
-      (subst (λ all. EffectFits s.predicates all effect) sorts (fit.effects (Op n) k effect (ap (λ all. slice_get all k) effects_are ∙ is))) (shaped.effects n k o effect e is)) in
+      (subst (λ all. EffectFits s all effect) sorts (fit.effects (Op n) k effect (ap (λ all. slice_get all k) effects_are ∙ is))) (shaped.effects n k o effect e is)) in
       λ i. record { name = o.name; params = params i; needs = needs i; effects = effects i }
 
   module _ (same_names : (a b : Name) → same_name a b ≡ true → a ≡ b) where
     bound_back : (n : ℕ) (b : Bound) → slice_get s.bounds n ≡ Some b → bound_of (named s) (bound_lines s.predicates b) ≡ b
     bound_back n b e =
         let places_have = λ (k : FaultKind). (or_parts (option_map_or (numbered.bound_places_have k b) (slice_get s.predicates b.predicate) (numbered.undeclared_has k)) (numbered.bound_adds k b)
-        (or_parts (option_map_or (numbered.bound_places_have k b) (slice_get s.predicates b.predicate) (numbered.undeclared_has k) || numbered.bound_adds k b) (list_any (numbered.effect_has k s.predicates (place_sorts s.predicates b.predicate)) b.removes) (flaws.bounds n b e k)).0).0 in
+        (or_parts (option_map_or (numbered.bound_places_have k b) (slice_get s.predicates b.predicate) (numbered.undeclared_has k) || numbered.bound_adds k b) (list_any (numbered.effect_has k s (place_sorts s.predicates b.predicate)) b.removes) (flaws.bounds n b e k)).0).0 in
         let found = declared (numbered.bound_places_have kind.UnknownName b) (slice_get s.predicates b.predicate) (places_have kind.UnknownName) in
         let p = found.0 in
         let wide = shaped.vars n b e in
@@ -190,14 +200,15 @@ module _ (s : Specification) (fit : IsFit s) (flaws : SpecificationParts s) (sha
         let sorts : place_sorts s.predicates b.predicate ≡ take p.arity p.sorts = ap (λ f. option_map_or (λ q. take q.arity q.sorts) f []) found.1 in
         let as_many : length (place_sorts s.predicates b.predicate) ≡ length (bound_vars s.predicates b) = ap length sorts ∙ length-take-le p.arity p.sorts (omega (arith, shaped.predicates b.predicate p found.1, short)) ∙ sym many in
         let action_sorts : sorts_of s (Drop n) ≡ place_sorts s.predicates b.predicate = ap (λ f. option_map_or (λ x. place_sorts s.predicates x.predicate) f []) e in
-        let dropped = λ (k : ℕ) (effect : Effect) (is : slice_get b.removes k ≡ Some effect). subst (λ all. EffectFits s.predicates all effect) action_sorts (fit.effects (Drop n) (suc k) effect (further s k effect b n e is)) in
+        let dropped = λ (k : ℕ) (effect : Effect) (is : slice_get b.removes k ≡ Some effect). subst (λ all. EffectFits s all effect) action_sorts (fit.effects (Drop n) (suc k) effect (further s k effect b n e is)) in
         let removes = each_back (effect_of (named s) scope) (remove_line s.predicates b.name (bound_vars s.predicates b)) b.removes
         (λ k effect is. remove_back scope (bound_vars s.predicates b) (place_sorts s.predicates b.predicate) b.name names apart as_many effect (dropped k effect is) (shaped.removes n k b effect e is) (fit.drops_remove n k effect b e is)) in
-        λ i. record { name = b.name; predicate = number i; vars = vars i; counted = place i; most = b.most; removes = removes i }
+        λ i. record { name = b.name; predicate = number i; vars = vars i; counted = place i; most = b.most; removes = removes i; pick = sym (fit.greatest n b e) i }
 
     pub specification_back : specification_of (named s) ≡ s
     specification_back = λ i. record {
       sorts = s.sorts;
+      constants = sym fit.no_constants i;
       predicates = each_back (predicate_of (named s)) (predicate_line s.sorts) s.predicates predicate_back i;
       clauses = each_back (clause_of (named s)) (clause_line s.sorts s.predicates) s.clauses clause_back i;
       operations = each_back (operation_of (named s)) (operation_lines s.sorts s.predicates) s.operations operation_back i;

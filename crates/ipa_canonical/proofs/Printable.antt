@@ -15,20 +15,20 @@ use Rattle.ipa_forms.specs.declared.forms.LiteralForm.{LiteralForm}
 use Rattle.ipa_forms.specs.declared.forms.LiteralForm.TheVariants.{Holds, Fails, Same, Differ}
 use Rattle.ipa_forms.specs.declared.forms.Form.{Form}
 use Rattle.ipa_forms.specs.declared.forms.Form.TheVariants as line
-use Rattle.ipa_declared.specs.Declarations.{nothing_declared, with_declaration}
+use Rattle.ipa_names.specs.Declarations.{nothing_declared, with_declaration}
 use Rattle.ipa_reader.specs.Arrangements.{nothing_arranged}
-use Rattle.ipa_declared.specs.Scopes.{bound_variables}
-use Rattle.ipa_declared.specs.Meaning.{predicate_of, literal_of, clause_of, effect_of, operation_of, three_names, bound_of, specification_of}
+use Rattle.ipa_names.specs.Scopes.{bound_variables}
+use Rattle.ipa_names.specs.Meaning.{predicate_of, literal_of, clause_of, effect_of, operation_of, three_names, bound_of, specification_of}
 use Rattle.ipa_reader.specs.Standings.{standing_of}
-use Rattle.ipa_declared.specs.Soundness.{EachOf}
+use Rattle.ipa_names.specs.Soundness.{EachOf}
 use Rattle.ipa_reader.specs.Documents.{SayEach}
 use Rattle.ipa_canonical.specs.Shapes.{LiteralShaped, IsShaped}
-use Rattle.ipa_declared.specs.declared.declared.ClauseLine.{ClauseLine}
-use Rattle.ipa_declared.specs.declared.declared.EffectLine.{EffectLine}
-use Rattle.ipa_declared.specs.declared.declared.Declared.{Declared}
+use Rattle.ipa_names.specs.declared.declared.ClauseLine.{ClauseLine}
+use Rattle.ipa_names.specs.declared.declared.EffectLine.{EffectLine}
+use Rattle.ipa_names.specs.declared.declared.Declared.{Declared}
 use Rattle.ipa_spec.specs.declared.names.Name.{Name}
 use Rattle.ipa_canonical.specs.Sentences.{HasLiterals}
-use Rattle.ipa_declared.specs.ListLaws.{each_push}
+use Rattle.ipa_names.specs.ListLaws.{each_push}
 use Rattle.ipa_canonical.proofs.DeclaredBack.{said-declared}
 
 literal_shaped : (d : Declared) (scope : List Typed) (l : LiteralForm) → LiteralShaped (literal_of d scope l)

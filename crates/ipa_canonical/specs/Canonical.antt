@@ -1,4 +1,5 @@
--- The canonical text of a specification: a line for each of its parts, in declared order, with names in place of numbers.
+-- The canonical text of a specification: a line for each of its parts, in declared order, with names in place of
+-- numbers.
 --
 --   pred_form ..          the form of the line of a part
 --   operation_forms s o   an operation, then its needs, then its effects
@@ -7,12 +8,14 @@
 --   canonical_text s      their canonical lines
 --
 -- A number that names nothing, of which a specification without a fault has none, has the name of the part that it
--- stands in.
+-- stands in. So has a constant, which no line declares.
 use Rattle.std.specs.Prelude.{ℕ, List, ◌∷◌, ◌++◌, map, take, slice_get, slice_index_or, Option, None, Some, if◌then◌else◌}
 use Rattle.std.specs.List.{flat_map}
 use Rattle.std.specs.Option.{option_map_or}
 use Rattle.ipa_spec.specs.Actions.{arity_of}
 use Rattle.ipa_spec.specs.declared.names.Name.{Name}
+use Rattle.ipa_spec.specs.declared.constants.Term.{Term}
+use Rattle.ipa_spec.specs.declared.constants.Term.TheVariants.{Var as Variable, Const as Fixed}
 use Rattle.ipa_spec.specs.declared.predicates.Predicate.{Predicate}
 use Rattle.ipa_spec.specs.declared.predicates.Var.{Var}
 use Rattle.ipa_spec.specs.declared.clauses.Atom.{Atom}
@@ -20,7 +23,7 @@ use Rattle.ipa_spec.specs.declared.clauses.Literal.{Literal}
 use Rattle.ipa_spec.specs.declared.clauses.Literal.TheVariants.{Holds, Fails, Same, Differ}
 use Rattle.ipa_spec.specs.declared.clauses.Clause.{Clause}
 use Rattle.ipa_spec.specs.declared.operations.Arg.{Arg}
-use Rattle.ipa_spec.specs.declared.operations.Arg.TheVariants.{Var as Parameter, Any}
+use Rattle.ipa_spec.specs.declared.operations.Arg.TheVariants.{Var as Parameter, Const as FixedArg, Any}
 use Rattle.ipa_spec.specs.declared.operations.Effect.{Effect}
 use Rattle.ipa_spec.specs.declared.operations.Operation.{Operation}
 use Rattle.ipa_spec.specs.declared.bounds.Bound.{Bound}
@@ -47,24 +50,34 @@ pred_form sorts p = line.Pred p.name (names_at sorts p.name (take p.arity p.sort
 abbrev pub typed_form : List Name → Var → Typed
 typed_form sorts v = record { name = v.name; sort = slice_index_or sorts v.sort v.name }
 
+-- the name of what stands in a place of an atom, or on a side of an equality
+abbrev pub term_name : Name → List Name → Term → Name
+term_name own vars (Variable v) = slice_index_or vars v own
+term_name own vars (Fixed k) = own
+
 abbrev pub atom_form : List Predicate → Name → List Name → Atom → AtomForm
-atom_form ps own vars a = record { predicate = predicate_name ps own a.predicate; args = names_at vars own (take (arity_of ps a.predicate) a.args) }
+atom_form ps own vars a = record {
+  predicate = predicate_name ps own a.predicate;
+  args = map (term_name own vars) (take (arity_of ps a.predicate) a.args);
+}
 
 abbrev pub literal_form : List Predicate → Name → List Name → Literal → LiteralForm
 literal_form ps own vars (Holds a) = said.Holds (atom_form ps own vars a)
 literal_form ps own vars (Fails a) = said.Fails (atom_form ps own vars a)
-literal_form ps own vars (Same v w) = said.Same (slice_index_or vars v own) (slice_index_or vars w own)
-literal_form ps own vars (Differ v w) = said.Differ (slice_index_or vars v own) (slice_index_or vars w own)
+literal_form ps own vars (Same v w) = said.Same (term_name own vars v) (term_name own vars w)
+literal_form ps own vars (Differ v w) = said.Differ (term_name own vars v) (term_name own vars w)
 
 -- the names of variables
 abbrev pub names_of : List Var → List Name
 names_of vars = map (λ v. v.name) vars
 
 abbrev pub clause_form : List Name → List Predicate → Clause → Form
-clause_form sorts ps c = line.Clause c.name (map (typed_form sorts) c.vars) (map (literal_form ps c.name (names_of c.vars)) c.literals)
+clause_form sorts ps c =
+    line.Clause c.name (map (typed_form sorts) c.vars) (map (literal_form ps c.name (names_of c.vars)) c.literals)
 
 abbrev pub arg_form : Name → List Name → Arg → Option Name
 arg_form own vars (Parameter v) = Some (slice_index_or vars v own)
+arg_form own vars (FixedArg k) = Some own
 arg_form own vars Any = None
 
 abbrev pub args_form : List Predicate → Name → List Name → Effect → List (Option Name)
@@ -74,20 +87,28 @@ abbrev pub need_form : List Predicate → Name → List Name → Literal → For
 need_form ps own vars l = line.Need (literal_form ps own vars l)
 
 abbrev pub effect_form : List Predicate → Name → List Name → Effect → Form
-effect_form ps own vars e = if e.add then line.Add (predicate_name ps own e.predicate) (args_form ps own vars e) else line.Del (predicate_name ps own e.predicate) (args_form ps own vars e)
+effect_form ps own vars e =
+    if e.add
+    then line.Add (predicate_name ps own e.predicate) (args_form ps own vars e)
+    else line.Del (predicate_name ps own e.predicate) (args_form ps own vars e)
 
 abbrev pub remove_form : List Predicate → Name → List Name → Effect → Form
 remove_form ps own vars e = line.Drops (predicate_name ps own e.predicate) (args_form ps own vars e)
 
 abbrev pub operation_forms : List Name → List Predicate → Operation → List Form
-operation_forms sorts ps o = line.Op o.name (map (typed_form sorts) o.params) ∷ (map (need_form ps o.name (names_of o.params)) o.needs ++ map (effect_form ps o.name (names_of o.params)) o.effects)
+operation_forms sorts ps o =
+    line.Op o.name (map (typed_form sorts) o.params)
+    ∷ (map (need_form ps o.name (names_of o.params)) o.needs
+    ++ map (effect_form ps o.name (names_of o.params)) o.effects)
 
 -- the variables of a bound, one for each place of its predicate
 abbrev pub bound_vars : List Predicate → Bound → List Name
 bound_vars ps b = take (arity_of ps b.predicate) b.vars
 
 abbrev pub bound_form : List Predicate → Bound → Form
-bound_form ps b = line.Bound b.name (predicate_name ps b.name b.predicate) (bound_vars ps b) (slice_index_or b.vars b.counted b.name) b.most
+bound_form ps b =
+    line.Bound b.name (predicate_name ps b.name b.predicate) (bound_vars ps b) (slice_index_or b.vars b.counted b.name)
+    b.most
 
 abbrev pub bound_forms : List Predicate → Bound → List Form
 bound_forms ps b = bound_form ps b ∷ map (remove_form ps b.name (bound_vars ps b)) b.removes

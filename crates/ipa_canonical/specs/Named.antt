@@ -10,22 +10,30 @@ use Rattle.ipa_spec.specs.declared.operations.Effect.{Effect}
 use Rattle.ipa_spec.specs.declared.operations.Operation.{Operation}
 use Rattle.ipa_spec.specs.declared.bounds.Bound.{Bound}
 use Rattle.ipa_spec.specs.declared.specification.Specification.{Specification}
-use Rattle.ipa_declared.specs.declared.declared.PredicateLine.{PredicateLine}
-use Rattle.ipa_declared.specs.declared.declared.ClauseLine.{ClauseLine}
-use Rattle.ipa_declared.specs.declared.declared.EffectLine.{EffectLine}
-use Rattle.ipa_declared.specs.declared.declared.OperationLines.{OperationLines}
-use Rattle.ipa_declared.specs.declared.declared.BoundLines.{BoundLines}
-use Rattle.ipa_declared.specs.declared.declared.Declared.{Declared}
+use Rattle.ipa_names.specs.declared.declared.PredicateLine.{PredicateLine}
+use Rattle.ipa_names.specs.declared.declared.ClauseLine.{ClauseLine}
+use Rattle.ipa_names.specs.declared.declared.EffectLine.{EffectLine}
+use Rattle.ipa_names.specs.declared.declared.OperationLines.{OperationLines}
+use Rattle.ipa_names.specs.declared.declared.BoundLines.{BoundLines}
+use Rattle.ipa_names.specs.declared.declared.Declared.{Declared}
 use Rattle.ipa_canonical.specs.Canonical.{names_at, predicate_name, typed_form, literal_form, names_of, args_form, bound_vars}
 
 abbrev pub predicate_line : List Name → Predicate → PredicateLine
 predicate_line sorts p = record { name = p.name; sorts = names_at sorts p.name (take p.arity p.sorts); rule = p.rule }
 
 abbrev pub clause_line : List Name → List Predicate → Clause → ClauseLine
-clause_line sorts ps c = record { name = c.name; vars = map (typed_form sorts) c.vars; literals = map (literal_form ps c.name (names_of c.vars)) c.literals }
+clause_line sorts ps c = record {
+  name = c.name;
+  vars = map (typed_form sorts) c.vars;
+  literals = map (literal_form ps c.name (names_of c.vars)) c.literals;
+}
 
 abbrev pub effect_line : List Predicate → Name → List Name → Effect → EffectLine
-effect_line ps own vars e = record { add = e.add; predicate = predicate_name ps own e.predicate; args = args_form ps own vars e }
+effect_line ps own vars e = record {
+  add = e.add;
+  predicate = predicate_name ps own e.predicate;
+  args = args_form ps own vars e;
+}
 
 abbrev pub operation_lines : List Name → List Predicate → Operation → OperationLines
 operation_lines sorts ps o = record {
@@ -37,7 +45,11 @@ operation_lines sorts ps o = record {
 
 -- a further remove removes, whatever the effect says
 abbrev pub remove_line : List Predicate → Name → List Name → Effect → EffectLine
-remove_line ps own vars e = record { add = false; predicate = predicate_name ps own e.predicate; args = args_form ps own vars e }
+remove_line ps own vars e = record {
+  add = false;
+  predicate = predicate_name ps own e.predicate;
+  args = args_form ps own vars e;
+}
 
 abbrev pub bound_lines : List Predicate → Bound → BoundLines
 bound_lines ps b = record {

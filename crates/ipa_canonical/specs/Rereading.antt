@@ -3,7 +3,8 @@
 --   no_elements        the universe without elements
 --   is_no_fact         no fact is true in the state without facts
 --   IsReadBack s       the text reads as the document that has the specification alone
---   IsRefusedBack s    the text is refused at its last line, for the first instance that is broken in the universe without elements
+--   IsRefusedBack s    the text is refused at its last line, for the first instance that is broken in the universe
+--                      without elements
 --   IsThatRefusal ..   a refusal is this one
 --
 -- Only a clause without variables has an instance in that universe. It is broken there where each of its literals says

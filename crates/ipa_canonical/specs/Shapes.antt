@@ -20,8 +20,12 @@ LiteralShaped (Differ v w) = Unit {0}
 
 pub record IsShaped (s : Specification) : Type 0 where
   pub predicates : (n : ℕ) (p : Predicate) → slice_get s.predicates n ≡ Some p → length p.sorts ≡ 3
-  pub literals : (n k : ℕ) (c : Clause) (l : Literal) → slice_get s.clauses n ≡ Some c → slice_get c.literals k ≡ Some l → LiteralShaped l
-  pub needs : (n k : ℕ) (o : Operation) (l : Literal) → slice_get s.operations n ≡ Some o → slice_get o.needs k ≡ Some l → LiteralShaped l
-  pub effects : (n k : ℕ) (o : Operation) (e : Effect) → slice_get s.operations n ≡ Some o → slice_get o.effects k ≡ Some e → length e.args ≡ 3
+  pub literals : (n k : ℕ) (c : Clause) (l : Literal) → slice_get s.clauses n ≡ Some c →
+      slice_get c.literals k ≡ Some l → LiteralShaped l
+  pub needs : (n k : ℕ) (o : Operation) (l : Literal) → slice_get s.operations n ≡ Some o →
+      slice_get o.needs k ≡ Some l → LiteralShaped l
+  pub effects : (n k : ℕ) (o : Operation) (e : Effect) → slice_get s.operations n ≡ Some o →
+      slice_get o.effects k ≡ Some e → length e.args ≡ 3
   pub vars : (n : ℕ) (b : Bound) → slice_get s.bounds n ≡ Some b → length b.vars ≡ 3
-  pub removes : (n k : ℕ) (b : Bound) (e : Effect) → slice_get s.bounds n ≡ Some b → slice_get b.removes k ≡ Some e → length e.args ≡ 3
+  pub removes : (n k : ℕ) (b : Bound) (e : Effect) → slice_get s.bounds n ≡ Some b → slice_get b.removes k ≡ Some e →
+      length e.args ≡ 3

@@ -22,8 +22,3 @@ pub use canonical_laws::canonical_lines;
 pub use rereading::{
     declares_itself, document_read_back, fit_to_print, is_read_back, none_refused, reads_as_itself,
 };
-
-#[cfg(test)]
-mod print_tests;
-#[cfg(test)]
-mod rereading_tests;

@@ -1,10 +1,10 @@
 //! The forms of the lines that say the parts of a specification.
 ghost use Rattle.std.specs.Prelude.{◌≡◌, IfOk, map};
-ghost use Rattle.ipa_canonical.specs.Canonical.{arg_form, args_form, atom_form, bound_form, bound_vars, clause_form, effect_form, literal_form, need_form, pred_form, remove_form, typed_form};
+ghost use Rattle.ipa_canonical.specs.Canonical.{arg_form, args_form, atom_form, bound_form, bound_vars, clause_form, effect_form, literal_form, need_form, pred_form, remove_form, term_name, typed_form};
 
 use crate::naming::{arity_of, first_of, name_at, names_at, names_of, predicate_name};
 use ipa_forms::{AtomForm, Form, LiteralForm, Typed};
-use ipa_spec::{Arg, Atom, Bound, Clause, Effect, List, Literal, Name, Predicate, Var};
+use ipa_spec::{Arg, Atom, Bound, Clause, Effect, List, Literal, Name, Predicate, Term, Var};
 use std::alloc::{AllocError, Global};
 
 /// The line of a predicate.
@@ -40,6 +40,31 @@ pub(crate) fn typed_forms(
         .collect(alloc)
 }
 
+/// The name of what stands in a place of an atom, or on a side of an equality.
+fn term_name(own: Name, vars: &[Name], term: &Term) -> Name
+    ensures { result ≡ term_name own vars.now term.now }
+{
+    match term {
+        Term::Var(number) => name_at(vars, *number, own),
+        Term::Const(_) => own,
+    }
+}
+
+/// The names of terms.
+fn term_names(
+    alloc: Global,
+    own: Name,
+    vars: &[Name],
+    terms: &[Term],
+) -> Result<Vec<Name>, AllocError>
+    ensures { IfOk result (λ all. all.items ≡ map (term_name own vars.now) terms.now) }
+{
+    terms
+        .iter()
+        .map(|term| term_name(own, vars, term))
+        .collect(alloc)
+}
+
 /// An atom over these variables.
 fn atom_form(
     alloc: Global,
@@ -50,8 +75,8 @@ fn atom_form(
 ) -> Result<AtomForm, AllocError>
     ensures { IfOk result (λ form. form ≡ atom_form predicates.now own vars.now atom.now) }
 {
-    let numbers = first_of(&atom.args, arity_of(predicates, atom.predicate));
-    let args = names_at(alloc, vars, own, numbers)?;
+    let terms = first_of(&atom.args, arity_of(predicates, atom.predicate));
+    let args = term_names(alloc, own, vars, terms)?;
     Ok(AtomForm {
         predicate: predicate_name(predicates, own, atom.predicate),
         args: List::from_vec(args),
@@ -76,12 +101,12 @@ pub(crate) fn literal_form(
             alloc, predicates, own, vars, atom,
         )?)),
         Literal::Same(one, other) => Ok(LiteralForm::Same(
-            name_at(vars, *one, own),
-            name_at(vars, *other, own),
+            term_name(own, vars, one),
+            term_name(own, vars, other),
         )),
         Literal::Differ(one, other) => Ok(LiteralForm::Differ(
-            name_at(vars, *one, own),
-            name_at(vars, *other, own),
+            term_name(own, vars, one),
+            term_name(own, vars, other),
         )),
     }
 }
@@ -148,6 +173,7 @@ fn arg_form(own: Name, vars: &[Name], arg: &Arg) -> Option<Name>
 {
     match arg {
         Arg::Var(number) => Some(name_at(vars, *number, own)),
+        Arg::Const(_) => Some(own),
         Arg::Any => None,
     }
 }

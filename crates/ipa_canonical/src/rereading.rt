@@ -6,7 +6,7 @@ ghost use Rattle.std.specs.Prelude.{◌≡◌, ◌↔◌, ◌⊎◌, ℕ, List};
 ghost use Rattle.ipa_spec.specs.Limits.{IsFaultless};
 ghost use Rattle.ipa_spec.specs.declared.specification.Specification.{Specification};
 ghost use Rattle.ipa_reader.specs.Documents.{ReadsAs, AreAccepted, IsRefused};
-ghost use Rattle.ipa_declared.specs.Meaning.{specification_of};
+ghost use Rattle.ipa_names.specs.Meaning.{specification_of};
 ghost use Rattle.ipa_reader.specs.Standings.{standing_of};
 ghost use Rattle.ipa_reader.specs.declared.document.Document.{Document};
 ghost use Rattle.ipa_reader.specs.declared.refusals.DocKind.{DocKind};

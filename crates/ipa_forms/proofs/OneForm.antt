@@ -1,5 +1,5 @@
 -- The words of a form determine it.
-use Rattle.std.proofs.Common.{◌≡◌, drop, List, [], ◌∷◌, ◌++◌, Option, None, Some, true, map, refl, sym, ap, ◌∙◌, append_assoc, codes}
+use Rattle.std.proofs.Common.{◌≡◌, drop, List, [], ◌∷◌, ◌++◌, Option, None, Some, map, refl, sym, ap, ◌∙◌, append_assoc, codes}
 use Rattle.std.proofs.lemmas.Bool.{false≢true}
 use Rattle.std.specs.Str.{bytes_eq}
 use Rattle.std.specs.List.{flat_map, join_by}

@@ -82,7 +82,9 @@ words_of (Op n params) = text (codes "op") ∷ name n ∷ typed params
 words_of (Need l) = text (codes "need") ∷ literal l
 words_of (Add p args) = text (codes "add") ∷ name p ∷ places args
 words_of (Del p args) = text (codes "del") ∷ name p ∷ places args
-words_of (Bound n p vars counted most) = text (codes "bound") ∷ name n ∷ name p ∷ names vars ++ text (codes "counts") ∷ name counted ∷ text (codes "most") ∷ number most ∷ []
+words_of (Bound n p vars counted most) =
+    text (codes "bound") ∷ name n ∷ name p ∷ names vars
+    ++ text (codes "counts") ∷ name counted ∷ text (codes "most") ∷ number most ∷ []
 words_of (Drops p args) = text (codes "drops") ∷ name p ∷ places args
 words_of (Elem sort elements) = text (codes "elem") ∷ name sort ∷ map name elements
 words_of (Base p elements) = text (codes "base") ∷ name p ∷ names elements

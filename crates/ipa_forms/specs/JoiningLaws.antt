@@ -14,7 +14,8 @@ module _ {A : Type 0} (said : A → List Word) (between : Word) where
   abbrev led : List A → List Word
   led xs = flat_map (λ x. (between ∷ []) ++ said x) xs
 
-  regroup : (x : A) (xs : List A) (after : List Word) → followed said between (x ∷ xs) ++ after ≡ said x ++ (between ∷ (followed said between xs ++ after))
+  regroup : (x : A) (xs : List A) (after : List Word) →
+      followed said between (x ∷ xs) ++ after ≡ said x ++ (between ∷ (followed said between xs ++ after))
   regroup x xs after =
       append_assoc (said x ++ between ∷ []) (followed said between xs) after ∙ append_assoc (said x) (between ∷ []) (followed said between xs ++ after)
 
@@ -28,15 +29,19 @@ module _ {A : Type 0} (said : A → List Word) (between : Word) where
   join_by-push [] x = sym (append-nil (said x))
   join_by-push (y ∷ ys) x = regroup y ys (said x) ∙ ap (λ t. said y ++ t) (before_last ys x)
 
-  pub IsJoined-push : (all left : List Word) (xs : List A) (x : A) → all ≡ followed said between xs ++ (said x ++ left) → Lacks between left → IsJoined said between all (xs ++ x ∷ []) left
+  pub IsJoined-push : (all left : List Word) (xs : List A) (x : A) →
+      all ≡ followed said between xs ++ (said x ++ left) → Lacks between left →
+      IsJoined said between all (xs ++ x ∷ []) left
   IsJoined-push all left xs x e ended = record {
     some = omega (arith, length-append xs (x ∷ []));
-    words_are = e ∙ sym (append_assoc (followed said between xs) (said x) left) ∙ ap (λ t. t ++ left) (join_by-push xs x);
+    words_are =
+        e ∙ sym (append_assoc (followed said between xs) (said x) left) ∙ ap (λ t. t ++ left) (join_by-push xs x);
     ended = ended;
   }
 
   -- no further part stands where one has to
-  pub none_joined : IsUnmixed said → (xs : List A) (all w : List Word) → all ≡ followed said between xs ++ w → HasNone said w → (ys : List A) (left : List Word) → IsJoined said between all ys left → ⊥
+  pub none_joined : IsUnmixed said → (xs : List A) (all w : List Word) → all ≡ followed said between xs ++ w →
+      HasNone said w → (ys : List A) (left : List Word) → IsJoined said between all ys left → ⊥
   none_joined unmixed [] all w e none [] left h = omega (arith, h.some)
   none_joined unmixed [] all w e none (y ∷ ys) left h =
       none y (led ys ++ left) (sym e ∙ h.words_are ∙ append_assoc (said y) (led ys) left)
@@ -50,7 +55,9 @@ module _ {A : Type 0} (said : A → List Word) (between : Word) where
       none_joined unmixed xs (followed said between xs ++ w) w refl none (z ∷ zs) left (record { some = omega arith; words_are = same; ended = h.ended })
 
   -- such parts are cut from the front in one way
-  pub joined_once : IsUnmixed said → (xs ys : List A) (all after before : List Word) → IsJoined said between all xs after → IsJoined said between all ys before → (join_by said (between ∷ []) xs ≡ join_by said (between ∷ []) ys) × (after ≡ before)
+  pub joined_once : IsUnmixed said → (xs ys : List A) (all after before : List Word) →
+      IsJoined said between all xs after → IsJoined said between all ys before →
+      (join_by said (between ∷ []) xs ≡ join_by said (between ∷ []) ys) × (after ≡ before)
   joined_once unmixed [] ys all after before h k = absurd (omega (arith, h.some))
   joined_once unmixed (x ∷ xs) [] all after before h k = absurd (omega (arith, k.some))
   joined_once unmixed (x ∷ []) (y ∷ []) all after before h k =

@@ -53,13 +53,15 @@ rule_text RemoveWins = codes "remwins"
 abbrev pub line_of : Form → List ℕ
 line_of (Sort n) = codes "sort " ++ name_text n
 line_of (Pred n sorts rule) = codes "pred " ++ applied_text name_text n sorts ++ codes " " ++ rule_text rule
-line_of (Clause n vars literals) = codes "clause " ++ applied_text typed_text n vars ++ codes ": " ++ join_by literal_text (codes " or ") literals
+line_of (Clause n vars literals) =
+    codes "clause " ++ applied_text typed_text n vars ++ codes ": " ++ join_by literal_text (codes " or ") literals
 line_of (Op n params) = codes "op " ++ applied_text typed_text n params
 line_of (Need l) = codes "need " ++ literal_text l
 line_of (Add p args) = codes "add " ++ applied_text place_text p args
 line_of (Del p args) = codes "del " ++ applied_text place_text p args
 line_of (Bound n p vars counted most) =
-    codes "bound " ++ name_text n ++ codes " " ++ applied_text name_text p vars ++ codes " counts " ++ name_text counted ++ codes " most " ++ decimal most
+    codes "bound " ++ name_text n ++ codes " " ++ applied_text name_text p vars ++ codes " counts " ++ name_text counted
+    ++ codes " most " ++ decimal most
 line_of (Drops p args) = codes "drops " ++ applied_text place_text p args
 line_of (Elem sort elements) = codes "elem " ++ name_text sort ++ flat_map (λ n. codes " " ++ name_text n) elements
 line_of (Base p elements) = codes "base " ++ applied_text name_text p elements

@@ -61,12 +61,17 @@ pub record AreNames (all : List Word) (ns : List Name) : Type 0 where
 abbrev pub NoneFor : Keyword → List Word → Type 0
 NoneFor Sort all = NoWhole name_alone all
 NoneFor Pred all = (n : Name) (sorts : List Name) (rule : Rule) → all ≡ name n ∷ names sorts ++ rule_word rule ∷ [] → ⊥
-NoneFor Clause all = (n : Name) (vars : List Typed) (literals : List LiteralForm) → 0 < length literals → all ≡ name n ∷ typed vars ++ sign Colon ∷ alternatives literals → ⊥
+NoneFor Clause all =
+    (n : Name) (vars : List Typed) (literals : List LiteralForm) → 0 < length literals →
+    all ≡ name n ∷ typed vars ++ sign Colon ∷ alternatives literals → ⊥
 NoneFor Op all = NoWhole (applied typed_name) all
 NoneFor Need all = NoWhole literal all
 NoneFor Add all = NoWhole (applied place) all
 NoneFor Del all = NoWhole (applied place) all
-NoneFor Bound all = (n p : Name) (vars : List Name) (counted : Name) (most : ℕ) → all ≡ name n ∷ name p ∷ names vars ++ text (codes "counts") ∷ name counted ∷ text (codes "most") ∷ number most ∷ [] → ⊥
+NoneFor Bound all =
+    (n p : Name) (vars : List Name) (counted : Name) (most : ℕ) →
+    all ≡ name n ∷ name p ∷ names vars ++ text (codes "counts") ∷ name counted ∷ text (codes "most") ∷ number most
+    ∷ [] → ⊥
 NoneFor Drops all = NoWhole (applied place) all
 NoneFor Elem all = (sort : Name) (elements : List Name) → 0 < length elements → all ≡ name sort ∷ map name elements → ⊥
 NoneFor Base all = NoWhole (applied name_alone) all

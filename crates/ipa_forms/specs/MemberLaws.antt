@@ -43,7 +43,8 @@ IsUnmixed-typed_name x y after before e = (cc, cc)
 pub IsOpen-typed_name : IsOpen typed_name
 IsOpen-typed_name x after before e = cc
 
-same_atoms : (a b : AtomForm) (after before : List Word) → atom a ++ after ≡ atom b ++ before → (atom a ≡ atom b) × (after ≡ before)
+same_atoms : (a b : AtomForm) (after before : List Word) → atom a ++ after ≡ atom b ++ before →
+    (atom a ≡ atom b) × (after ≡ before)
 same_atoms a b after before e =
     let head : name a.predicate ≡ name b.predicate = cc in
     let tail : names a.args ++ after ≡ names b.args ++ before = cc in

@@ -5,7 +5,8 @@
 --   IsRead said all found left         the part found stands at the front, before what is left; or none does
 --   Lacks word all                     the first word is another, or there is none
 --   IsTaken word all taken left        the first word was this one and is taken, or it is another and stays
---   IsJoined said between all xs left  one part or more stand at the front with `between` between each two, and no further one
+--   IsJoined said between all xs left  one part or more stand at the front with `between` between each two, and no
+--                                      further one
 --   IsJoinedRead ..                    such parts are found, or there are none
 --   IsUnmixed said                     where one part ends is seen from the words before
 --   IsOpen said                        no part begins with `)`
@@ -40,17 +41,20 @@ abbrev pub IsTaken : Word → List Word → Bool → List Word → Type 0
 IsTaken word all true left = all ≡ word ∷ left
 IsTaken word all false left = (left ≡ all) × Lacks word all
 
-pub record IsJoined {A : Type 0} (said : A → List Word) (between : Word) (all : List Word) (xs : List A) (left : List Word) : Type 0 where
+pub record IsJoined {A : Type 0} (said : A → List Word) (between : Word) (all : List Word) (xs : List A)
+    (left : List Word) : Type 0 where
   pub some : 0 < length xs
   pub words_are : all ≡ join_by said (between ∷ []) xs ++ left
   pub ended : Lacks between left
 
 abbrev pub IsJoinedRead : {A : Type 0} → (A → List Word) → Word → List Word → Option (List A) → List Word → Type 0
 IsJoinedRead {A} said between all found left =
-    MatchOption found ((xs : List A) (rest : List Word) → IsJoined said between all xs rest → ⊥) (λ xs. IsJoined said between all xs left)
+    MatchOption found ((xs : List A) (rest : List Word) → IsJoined said between all xs rest → ⊥)
+    (λ xs. IsJoined said between all xs left)
 
 abbrev pub IsUnmixed : {A : Type 0} → (A → List Word) → Type 0
-IsUnmixed {A} said = (x y : A) (after before : List Word) → said x ++ after ≡ said y ++ before → (said x ≡ said y) × (after ≡ before)
+IsUnmixed {A} said =
+    (x y : A) (after before : List Word) → said x ++ after ≡ said y ++ before → (said x ≡ said y) × (after ≡ before)
 
 abbrev pub IsOpen : {A : Type 0} → (A → List Word) → Type 0
 IsOpen {A} said = (x : A) (after before : List Word) → said x ++ after ≡ sign Close ∷ before → ⊥

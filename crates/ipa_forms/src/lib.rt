@@ -22,6 +22,3 @@ pub use forms::{AtomForm, Form, LiteralForm, Typed};
 pub use printing::parts::{Printed, write_applied, write_joined, write_list, write_name};
 pub use printing::write_form;
 pub use reading::{is_existential, read_form};
-
-#[cfg(test)]
-mod form_tests;

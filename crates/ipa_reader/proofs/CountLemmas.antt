@@ -4,15 +4,15 @@
 --   sum_more      a sum with one more item
 --   state_more    the state with one more fact
 use Rattle.std.proofs.Common.{◌≡◌, ℕ, ◌+◌, ◌*◌, ◌<◌, ◌≤◌, Bool, true, false, ◌||◌, List, [], ◌∷◌, ◌++◌, length, take, refl, sym, ap, ◌∙◌, arith}
-use Rattle.std.specs.List.{slice_get, slice_index_or, list_any, sum_by}
+use Rattle.std.specs.List.{slice_get, slice_index_or, sum_by}
 use Rattle.std.specs.Option.{option_map_or}
 use Rattle.std.specs.Ordering.{is_eq}
 use Rattle.std.proofs.lemmas.List.{take_more}
-use Rattle.std.proofs.lemmas.List.Folds.{list_any-append}
 use Rattle.std.proofs.lemmas.List.Sums.{sum_by-append}
-use Rattle.ipa_logic.specs.Facts.{size_of, fact_cmp, has, IsRising}
+use Rattle.ipa_logic.specs.FactLaws.{same-turned, has-append}
+use Rattle.ipa_logic.specs.Facts.{size_of, fact_cmp, has, IsRising, IsStateOf}
 use Rattle.ipa_logic.specs.declared.facts.Fact.{Fact}
-use Rattle.ipa_reader.specs.Setups.{value_count, IsStateOf}
+use Rattle.ipa_reader.specs.Setups.{value_count}
 
 -- the number of elements of a sort in a place, and 1 where there is none
 abbrev pub size_in : List ℕ → List ℕ → ℕ → ℕ
@@ -38,14 +38,18 @@ or_swap true false = refl
 or_swap false true = refl
 or_swap false false = refl
 
-pub state_more : (facts : List Fact) (i : ℕ) (x : Fact) (old new : List Fact) → i < length facts → x ≡ slice_index_or facts i x → IsStateOf (take i facts) old → IsRising new → ((f : Fact) → has new f ≡ (is_eq (fact_cmp x f) || has old f)) → IsStateOf (take (i + 1) facts) new
-state_more facts i x old new lt at before rising more = record {
+pub state_more : (facts : List Fact) (i : ℕ) (past : Fact) (old new : List Fact) → i < length facts →
+    IsStateOf (has (take i facts)) old → IsRising new →
+    ((f : Fact) → has new f ≡ (is_eq (fact_cmp (slice_index_or facts i past) f) || has old f)) →
+    IsStateOf (has (take (i + 1) facts)) new
+state_more facts i past old new within before rising more = record {
   rising = rising;
-  members = λ f.
-      let front : take (i + 1) facts ≡ take i facts ++ x ∷ [] = take_more facts i x lt ∙ ap (λ z. take i facts ++ z ∷ []) (sym at) in
+  facts = λ f.
+      let x = slice_index_or facts i past in
       more f
-      ∙ ap (λ b. is_eq (fact_cmp x f) || b) (before.members f)
-      ∙ or_swap (is_eq (fact_cmp x f)) (list_any (λ g. is_eq (fact_cmp g f)) (take i facts))
-      ∙ sym (list_any-append (λ g. is_eq (fact_cmp g f)) (take i facts) (x ∷ []))
-      ∙ ap (list_any (λ g. is_eq (fact_cmp g f))) (sym front);
+      ∙ ap (λ b. is_eq (fact_cmp x f) || b) (before.facts f)
+      ∙ ap (λ b. b || has (take i facts) f) (same-turned x f)
+      ∙ or_swap (is_eq (fact_cmp f x)) (has (take i facts) f)
+      ∙ sym (has-append (take i facts) (x ∷ []) f)
+      ∙ ap (λ all. has all f) (sym (take_more facts i past within));
 }

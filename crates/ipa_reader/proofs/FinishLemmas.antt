@@ -7,8 +7,9 @@ use Rattle.std.proofs.Common.{◌≡◌, ℕ, List, sym, ap, subst, ◌∙◌}
 use Rattle.ipa_text.specs.Lines.{lines_of, last_line}
 use Rattle.ipa_spec.specs.declared.specification.Specification.{Specification}
 use Rattle.ipa_logic.specs.declared.facts.Fact.{Fact}
-use Rattle.ipa_declared.specs.Meaning.{specification_of}
-use Rattle.ipa_reader.specs.Setups.{size_list, IsSetup, IsStateOf, IsRefusedAtEnd, IsKept}
+use Rattle.ipa_names.specs.Meaning.{specification_of}
+use Rattle.ipa_logic.specs.Facts.{has, IsStateOf}
+use Rattle.ipa_reader.specs.Setups.{size_list, IsSetup, IsRefusedAtEnd, IsKept}
 use Rattle.ipa_reader.specs.Soundness.{IsSoundStanding}
 use Rattle.ipa_reader.specs.Documents.{ReadsAs, IsRefused}
 use Rattle.ipa_reader.specs.Documents.IsRefused.{at_end}
@@ -22,7 +23,7 @@ pub record IsMadeOf (s : Standing) (document : Document) : Type 0 where
   pub spec : document.spec ≡ specification_of s.declared
   pub elements : document.setup.elements ≡ s.arranged.elements
   pub universe : document.setup.universe.sizes ≡ size_list s.arranged.elements
-  pub base : IsStateOf s.arranged.facts document.setup.base
+  pub base : IsStateOf (has s.arranged.facts) document.setup.base
   pub replicas : document.setup.replicas ≡ s.arranged.replicas
   pub sessions : document.setup.sessions ≡ s.arranged.sessions
 
@@ -35,20 +36,20 @@ finished bytes s document h m kept = record {
     spec = m.spec ∙ ap (λ t. specification_of t.declared) h.standing_is;
     elements = m.elements ∙ ap (λ t. t.arranged.elements) h.standing_is;
     universe = m.universe ∙ ap (λ t. size_list t.arranged.elements) h.standing_is;
-    base = subst (λ t. IsStateOf t.arranged.facts document.setup.base) h.standing_is m.base;
+    base = subst (λ t. IsStateOf (has t.arranged.facts) document.setup.base) h.standing_is m.base;
     replicas = m.replicas ∙ ap (λ t. t.arranged.replicas) h.standing_is;
     sessions = m.sessions ∙ ap (λ t. t.arranged.sessions) h.standing_is;
   };
   kept = subst (λ sizes. IsKept document.spec sizes document.setup.base) (sym m.universe) kept;
 }
 
-pub refused_end : (bytes : List ℕ) (s : Standing) (spec : Specification) (state : List Fact) (number : ℕ) (kind : DocKind) → IsReadUpTo bytes (lines_of bytes) s → spec ≡ specification_of s.declared → IsStateOf s.arranged.facts state → number ≡ last_line bytes → IsRefusedAtEnd spec s.arranged.elements state kind → IsRefused bytes number kind
+pub refused_end : (bytes : List ℕ) (s : Standing) (spec : Specification) (state : List Fact) (number : ℕ) (kind : DocKind) → IsReadUpTo bytes (lines_of bytes) s → spec ≡ specification_of s.declared → IsStateOf (has s.arranged.facts) state → number ≡ last_line bytes → IsRefusedAtEnd spec s.arranged.elements state kind → IsRefused bytes number kind
 refused_end bytes s spec state number kind h same base is refused = at_end (record {
   forms = h.forms;
   said = h.said;
   accepted = h.accepted;
   state = state;
-  base = subst (λ t. IsStateOf t.arranged.facts state) h.standing_is base;
+  base = subst (λ t. IsStateOf (has t.arranged.facts) state) h.standing_is base;
   number_is = sym is;
   refused = subst (λ t. IsRefusedAtEnd (specification_of t.declared) t.arranged.elements state kind) h.standing_is (subst (λ x. IsRefusedAtEnd x s.arranged.elements state kind) same refused);
 })

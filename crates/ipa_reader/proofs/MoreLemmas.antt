@@ -9,9 +9,9 @@ use Rattle.std.proofs.Common.{◌≡◌, ℕ, ◌<◌, ◌≤◌, Bool, true, fa
 use Rattle.std.proofs.lemmas.Bool.{false≢true}
 use Rattle.indexmap.specs.IndexSet.{insert_key}
 use Rattle.ipa_spec.specs.Faults.{same_name, has_repeat}
-use Rattle.ipa_declared.specs.ListLaws.{repeat_found, split_at}
-use Rattle.ipa_declared.specs.Naming.{is_among}
-use Rattle.ipa_declared.specs.NumberLaws.{looked_among}
+use Rattle.ipa_names.specs.ListLaws.{repeat_found, split_at}
+use Rattle.ipa_names.specs.Naming.{is_among}
+use Rattle.ipa_names.specs.NumberLaws.{looked_among}
 use Rattle.std.specs.List.{insert, remove, slice_index_or}
 use Rattle.ipa_spec.specs.declared.names.Name.{Name}
 use Rattle.ipa_reader.specs.Arrangements.{elements_at, with_more}

@@ -10,24 +10,24 @@ use Rattle.std.proofs.lemmas.Option.{same_Some}
 use Rattle.ipa_spec.specs.Actions.{sorts_of_vars}
 use Rattle.ipa_spec.specs.declared.names.Name.{Name}
 use Rattle.ipa_spec.specs.declared.specification.Specification.{Specification}
-use Rattle.ipa_logic.specs.Facts.{Universe, has}
+use Rattle.ipa_logic.specs.Facts.{Universe, has, IsStateOf}
 use Rattle.ipa_logic.specs.FactLaws.{same_rising}
 use Rattle.ipa_logic.specs.Groups.{Within}
-use Rattle.ipa_logic.specs.Truth.{element_of, instance_true, IsOver, IsEarlier, Keeps, IsFirstBroken}
+use Rattle.ipa_logic.specs.Truth.{value_at, instance_true, IsOver, IsEarlier, Keeps, IsFirstBroken}
 use Rattle.ipa_logic.specs.declared.facts.Broken.{Broken}
 use Rattle.ipa_logic.specs.declared.facts.Fact.{Fact}
-use Rattle.ipa_reader.specs.Setups.{size_list, instance_count, greatest_instance_count, element_names, IsStateOf, IsNamed, IsNamedOver, IsRefusedAtEnd, IsKept}
+use Rattle.ipa_reader.specs.Setups.{size_list, instance_count, greatest_instance_count, element_names, IsNamed, IsNamedOver, IsRefusedAtEnd, IsKept}
 use Rattle.ipa_reader.specs.declared.refusals.DocKind.{DocKind}
 use Rattle.ipa_reader.specs.declared.refusals.DocKind.TheVariants.{BadByte, Existential, BadLine, Spec, Order, UnknownElement, SetupLimit, BaseClause, BaseOver}
 
-pub state_one : (facts s t : List Fact) → IsStateOf facts s → IsStateOf facts t → s ≡ t
-state_one facts s t a b = same_rising s t a.rising b.rising (λ f. a.members f ∙ sym (b.members f))
+pub state_one : (facts s t : List Fact) → IsStateOf (has facts) s → IsStateOf (has facts) t → s ≡ t
+state_one facts s t a b = same_rising s t a.rising b.rising (λ f. a.facts f ∙ sym (b.facts f))
 
 -- of two lists of values that differ one is earlier
 earlier_behind : (x y : ℕ) (v w : List ℕ) → x ≡ y → IsEarlier v w → IsEarlier (x ∷ v) (y ∷ w)
 earlier_behind x y v w e h = record { place = suc h.place; same = same; less = h.less }
   where
-    same : (k : ℕ) → k < suc h.place → element_of (x ∷ v) k ≡ element_of (y ∷ w) k
+    same : (k : ℕ) → k < suc h.place → value_at (x ∷ v) k ≡ value_at (y ∷ w) k
     same zero l = e
     same (suc k) l = h.same k (omega arith)
 
@@ -57,8 +57,8 @@ module _ (s : Specification) (sizes : Universe) (t : Fact → Bool) where
       let same : a.clause ≡ b.clause = same_Some a.clause b.clause (sym a.declared ∙ b.declared) in
       let a_over : IsOver sizes (sorts_of_vars b.clause.vars) v = subst (λ c. IsOver sizes (sorts_of_vars c.vars) v) same a.over in
       let b_over : IsOver sizes (sorts_of_vars a.clause.vars) w = subst (λ c. IsOver sizes (sorts_of_vars c.vars) w) (sym same) b.over in
-      let a_broken : instance_true s.predicates t v b.clause ≡ false = subst (λ c. instance_true s.predicates t v c ≡ false) same a.broken in
-      let b_broken : instance_true s.predicates t w a.clause ≡ false = subst (λ c. instance_true s.predicates t w c ≡ false) (sym same) b.broken in
+      let a_broken : instance_true s t v b.clause ≡ false = subst (λ c. instance_true s t v c ≡ false) same a.broken in
+      let b_broken : instance_true s t w a.clause ≡ false = subst (λ c. instance_true s t w c ≡ false) (sym same) b.broken in
       elim (cases_earlier v w (a.over.width ∙ sym b.over.width)) [
         | inl e ↦ e
         | inr (inl before) ↦ absurd (false≢true (sym a_broken ∙ b.earlier_values v a_over before))

@@ -13,12 +13,13 @@ use Rattle.ipa_spec.specs.FoundLaws.{at_take}
 use Rattle.ipa_spec.specs.declared.names.Name.{Name}
 use Rattle.ipa_spec.specs.declared.specification.Specification.{Specification}
 use Rattle.ipa_text.specs.Lines.{line_text, lines_of}
+use Rattle.ipa_logic.specs.Facts.{has, IsStateOf}
 use Rattle.ipa_logic.specs.declared.facts.Fact.{Fact}
 use Rattle.ipa_logic.specs.declared.facts.Universe.{Universe}
 use Rattle.ipa_forms.specs.declared.forms.Form.{Form}
-use Rattle.ipa_declared.specs.Meaning.{specification_of}
+use Rattle.ipa_names.specs.Meaning.{specification_of}
 use Rattle.ipa_reader.specs.Standings.{standing_of}
-use Rattle.ipa_reader.specs.Setups.{IsSetup, IsKept, IsStateOf, IsRefusedAtEnd}
+use Rattle.ipa_reader.specs.Setups.{IsSetup, IsKept, IsRefusedAtEnd}
 use Rattle.ipa_reader.specs.SetupLaws.{IsSetup-prop, IsKept-prop}
 use Rattle.ipa_reader.specs.Documents.{SayEach, AreAccepted, IsDocumentOf, ReadsAs, IsRefusedLine, IsRefusedAtLine, IsRefusedBase, IsRefused}
 use Rattle.ipa_reader.specs.Documents.IsRefused.{at_line, at_end}
@@ -95,7 +96,7 @@ module _ (one : AreOne) (bytes : List ℕ) where
   ends_one n m kind other a b =
       let forms : a.forms ≡ b.forms = said_one one bytes (lines_of bytes) a.forms b.forms a.said b.said in
       let of : Standing = standing_of b.forms in
-      let state : a.state ≡ b.state = state_one of.arranged.facts a.state b.state (subst (λ fs. IsStateOf (standing_of fs).arranged.facts a.state) forms a.base) b.base in
+      let state : a.state ≡ b.state = state_one of.arranged.facts a.state b.state (subst (λ fs. IsStateOf (has (standing_of fs).arranged.facts) a.state) forms a.base) b.base in
       let here : IsRefusedAtEnd (specification_of of.declared) of.arranged.elements a.state kind = subst (λ fs. IsRefusedAtEnd (specification_of (standing_of fs).declared) (standing_of fs).arranged.elements a.state kind) forms a.refused in (
         sym a.number_is ∙ b.number_is,
         end_one (specification_of of.declared) of.arranged.elements b.state kind other (subst (λ s. IsRefusedAtEnd (specification_of of.declared) of.arranged.elements s kind) state here) b.refused,
@@ -111,7 +112,7 @@ module _ (one : AreOne) (bytes : List ℕ) where
   kept_end d n kind h a =
       let forms : a.forms ≡ h.forms = said_one one bytes (lines_of bytes) a.forms h.forms a.said h.said in
       let of : Standing = standing_of h.forms in
-      let state : a.state ≡ d.setup.base = state_one of.arranged.facts a.state d.setup.base (subst (λ fs. IsStateOf (standing_of fs).arranged.facts a.state) forms a.base) h.document_is.base in
+      let state : a.state ≡ d.setup.base = state_one of.arranged.facts a.state d.setup.base (subst (λ fs. IsStateOf (has (standing_of fs).arranged.facts) a.state) forms a.base) h.document_is.base in
       let here : IsRefusedAtEnd (specification_of of.declared) of.arranged.elements a.state kind = subst (λ fs. IsRefusedAtEnd (specification_of (standing_of fs).declared) (standing_of fs).arranged.elements a.state kind) forms a.refused in
       let kept : IsKept (specification_of of.declared) d.setup.universe.sizes d.setup.base = subst (λ s. IsKept s d.setup.universe.sizes d.setup.base) h.document_is.spec h.kept in
       kept_only (specification_of of.declared) of.arranged.elements d.setup.base kind

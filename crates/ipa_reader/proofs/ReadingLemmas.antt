@@ -17,7 +17,7 @@ use Rattle.ipa_reader.specs.declared.standing.Standing.{Standing}
 use Rattle.ipa_reader.specs.declared.refusals.DocFault.{DocFault}
 use Rattle.ipa_reader.specs.declared.refusals.DocFault.TheVariants as fault
 use Rattle.ipa_reader.specs.declared.refusals.DocKind.{DocKind}
-use Rattle.ipa_declared.specs.ListLaws.{at_seam, AllZip-push, AllZip-length}
+use Rattle.ipa_names.specs.ListLaws.{at_seam, AllZip-push, AllZip-length}
 use Rattle.ipa_reader.specs.StandingLaws.{standing_of-push, accepted_push}
 use Rattle.ipa_reader.proofs.SoundNext.{sound_next}
 

@@ -14,15 +14,15 @@ use Rattle.std.proofs.lemmas.List.Sums.{sum_by-append}
 use Rattle.ipa_spec.specs.Faults.{has_repeat}
 use Rattle.ipa_spec.specs.declared.names.Name.{Name}
 use Rattle.ipa_logic.specs.declared.facts.Request.{Request}
-use Rattle.ipa_declared.specs.Naming.{number_in, with_last}
+use Rattle.ipa_names.specs.Naming.{number_in, with_last}
 use Rattle.ipa_reader.specs.Arrangements.{elements_at, elements_of, with_more, with_elements, with_request}
 use Rattle.ipa_reader.specs.Refusals.{request_count}
-use Rattle.ipa_declared.specs.Soundness.{EachOf}
+use Rattle.ipa_names.specs.Soundness.{EachOf}
 use Rattle.ipa_reader.specs.Soundness.{IsWithinElements, AreApart, ArePlaced}
-use Rattle.ipa_declared.specs.declared.declared.Declared.{Declared}
+use Rattle.ipa_names.specs.declared.declared.Declared.{Declared}
 use Rattle.ipa_reader.specs.declared.sessions.SessionWork.{SessionWork}
-use Rattle.ipa_declared.specs.ListLaws.{each_push, each_last}
-use Rattle.ipa_declared.specs.NumberLaws.{number_within}
+use Rattle.ipa_names.specs.ListLaws.{each_push, each_last}
+use Rattle.ipa_names.specs.NumberLaws.{number_within}
 
 pub within_more : (n : ℕ) (names : List Name) (es : List (List Name)) → ((m : ℕ) → length (elements_at es m) ≤ 256) → length (elements_at es n) + length names ≤ 256 → (m : ℕ) → length (elements_at (with_more n names es) m) ≤ 256
 within_more zero names [] h new zero = omega arith

@@ -7,15 +7,15 @@ use Rattle.std.proofs.lemmas.List.{take-append-le, take_all}
 use Rattle.ipa_spec.specs.Limits.{fault_of, IsFaultless}
 use Rattle.ipa_spec.specs.declared.names.Name.{Name}
 use Rattle.ipa_forms.specs.declared.forms.Form.{Form}
-use Rattle.ipa_declared.specs.Declarations.{nothing_declared}
+use Rattle.ipa_names.specs.Declarations.{nothing_declared}
 use Rattle.ipa_reader.specs.Standings.{standing_of}
 use Rattle.ipa_reader.specs.Refusals.{refusal_at}
-use Rattle.ipa_declared.specs.ListLaws.{at_seam}
-use Rattle.ipa_declared.specs.Meaning.{specification_of}
-use Rattle.ipa_declared.specs.Soundness.{AreSoundParts, IsSound}
+use Rattle.ipa_names.specs.ListLaws.{at_seam}
+use Rattle.ipa_names.specs.Meaning.{specification_of}
+use Rattle.ipa_names.specs.Soundness.{AreSoundParts, IsSound}
 use Rattle.ipa_reader.specs.Soundness.{IsSoundStanding}
 use Rattle.ipa_reader.specs.Documents.{AreAccepted, ReadsAs}
-use Rattle.ipa_declared.specs.declared.declared.Declared.{Declared}
+use Rattle.ipa_names.specs.declared.declared.Declared.{Declared}
 use Rattle.ipa_reader.specs.declared.document.Document.{Document}
 use Rattle.ipa_reader.specs.StandingLaws.{standing_of-push}
 use Rattle.ipa_reader.proofs.SoundNext.{sound_next}

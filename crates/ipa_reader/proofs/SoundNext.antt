@@ -9,19 +9,19 @@ use Rattle.ipa_spec.specs.Faults.{has_repeat}
 use Rattle.ipa_spec.specs.declared.names.Name.{Name}
 use Rattle.ipa_reader.specs.Arrangements.{elements_of, do_said, show_said, with_request, with_arrangement}
 use Rattle.ipa_reader.specs.Standings.{next_standing}
-use Rattle.ipa_declared.specs.Flaws.{sort_has}
+use Rattle.ipa_names.specs.Flaws.{sort_has}
 use Rattle.ipa_reader.specs.Ordering.{is_setup, is_session}
 use Rattle.ipa_reader.specs.Refusals.{elements_have, line_has, request_count, refusal_at}
 use Rattle.ipa_reader.specs.RefusalLaws.{plain}
 use Rattle.ipa_reader.specs.Soundness.{IsWithinElements, AreApart, ArePlaced, IsSoundStanding, NamesNew}
-use Rattle.ipa_declared.specs.declared.flaws.Flaw.TheVariants.{Duplicate}
+use Rattle.ipa_names.specs.declared.flaws.Flaw.TheVariants.{Duplicate}
 use Rattle.ipa_reader.specs.declared.sessions.SessionWork.{SessionWork}
 use Rattle.ipa_forms.specs.declared.forms.Form.{Form}
 use Rattle.ipa_forms.specs.declared.forms.Form.TheVariants.{Sort, Pred, Clause, Op, Need, Add, Del, Bound, Drops, Elem, Base, Replicas, Session, Do, Show}
 use Rattle.ipa_reader.specs.declared.standing.Standing.{Standing}
-use Rattle.ipa_declared.specs.ListLaws.{length-with_last}
+use Rattle.ipa_names.specs.ListLaws.{length-with_last}
 use Rattle.ipa_reader.proofs.Unrefused.{Unrefused, unrefused, setup_kept, replicas_kept}
-use Rattle.ipa_declared.specs.SoundLaws.{sound_declared}
+use Rattle.ipa_names.specs.SoundLaws.{sound_declared}
 use Rattle.ipa_reader.proofs.SoundArranged.{within_elements, apart_elements, placed_push, placed_last, placed_more, placed_none, request_count-push, request_count-last, names_replica}
 
 -- a line that arranges nothing

@@ -12,11 +12,11 @@ use Rattle.ipa_spec.specs.Limits.{first_there}
 use Rattle.ipa_spec.specs.FaultlessFits.{none_there, fault_if-None}
 use Rattle.ipa_spec.specs.declared.faults.SpecFault.{SpecFault}
 use Rattle.ipa_spec.specs.declared.faults.SpecFault.TheVariants as fault
-use Rattle.ipa_declared.specs.Counts.{limits_passed}
+use Rattle.ipa_names.specs.Counts.{limits_passed}
 use Rattle.ipa_reader.specs.Ordering.{is_out_of_order}
 use Rattle.ipa_reader.specs.Refusals.{line_has, faults_at, is_missing, setup_limit_at, setup_above, replicas_outside, first_kind, kind_if, refusals_at, refusal_at}
-use Rattle.ipa_declared.specs.declared.flaws.Flaw.{Flaw}
-use Rattle.ipa_declared.specs.declared.flaws.Flaw.TheVariants.{Arity, SortMismatch, UnknownName, Duplicate, WildAdd, FreeVariable}
+use Rattle.ipa_names.specs.declared.flaws.Flaw.{Flaw}
+use Rattle.ipa_names.specs.declared.flaws.Flaw.TheVariants.{Arity, SortMismatch, UnknownName, Duplicate, WildAdd, FreeVariable}
 use Rattle.ipa_forms.specs.declared.forms.Form.{Form}
 use Rattle.ipa_reader.specs.declared.refusals.DocKind.{DocKind}
 use Rattle.ipa_reader.specs.declared.refusals.DocKind.TheVariants as kind

@@ -15,12 +15,12 @@ use Rattle.ipa_spec.specs.declared.names.Name.{Name}
 use Rattle.ipa_logic.specs.declared.facts.Fact.{Fact}
 use Rattle.ipa_logic.specs.declared.facts.Request.{Request}
 use Rattle.ipa_logic.specs.declared.facts.Request.TheVariants as request
-use Rattle.ipa_declared.specs.Meaning.{three, predicate_number}
-use Rattle.ipa_declared.specs.Naming.{number_in, number_or_count, with_last}
-use Rattle.ipa_declared.specs.Scopes.{places_of, operation_named}
+use Rattle.ipa_names.specs.Meaning.{three, predicate_number}
+use Rattle.ipa_names.specs.Naming.{number_in, number_or_count, with_last}
+use Rattle.ipa_names.specs.Scopes.{places_of, operation_named}
 use Rattle.ipa_forms.specs.declared.forms.Form.{Form}
 use Rattle.ipa_forms.specs.declared.forms.Form.TheVariants.{Elem, Base, Replicas, Session, Do, Show}
-use Rattle.ipa_declared.specs.declared.declared.Declared.{Declared}
+use Rattle.ipa_names.specs.declared.declared.Declared.{Declared}
 use Rattle.ipa_reader.specs.declared.sessions.SessionWork.{SessionWork}
 use Rattle.ipa_reader.specs.declared.standing.Arranged.{Arranged}
 
@@ -56,14 +56,18 @@ abbrev pub operation_number : Declared → Name → ℕ
 operation_number d name = number_or_count (map (λ o. o.name) d.operations) name
 
 abbrev pub fact_said : Declared → List (List Name) → Name → List Name → Fact
-fact_said d elements predicate names = record { predicate = predicate_number d predicate; args = three (element_numbers d elements (places_of d predicate) names) }
+fact_said d elements predicate names = record {
+  predicate = predicate_number d predicate;
+  args = three (element_numbers d elements (places_of d predicate) names);
+}
 
 -- the names of the sorts of an operation's parameters
 abbrev pub parameter_sorts : Declared → Name → List Name
 parameter_sorts d operation = option_map_or (λ o. map (λ v. v.sort) o.params) (operation_named d operation) []
 
 abbrev pub do_said : Declared → List (List Name) → Name → List Name → Request
-do_said d elements operation names = request.Do (operation_number d operation) (four (element_numbers d elements (parameter_sorts d operation) names))
+do_said d elements operation names =
+    request.Do (operation_number d operation) (four (element_numbers d elements (parameter_sorts d operation) names))
 
 -- the number of the element wanted in a place, and none for `*`
 abbrev pub wanted_number : Declared → List (List Name) → Option Name × Name → Option ℕ
@@ -73,7 +77,9 @@ abbrev pub three_wanted : List (Option ℕ) → List (Option ℕ)
 three_wanted ns = slice_index_or ns 0 None ∷ slice_index_or ns 1 None ∷ slice_index_or ns 2 None ∷ []
 
 abbrev pub show_said : Declared → List (List Name) → Name → List (Option Name) → Request
-show_said d elements predicate places = request.Show (predicate_number d predicate) (three_wanted (map (wanted_number d elements) (zip places (places_of d predicate))))
+show_said d elements predicate places =
+    request.Show (predicate_number d predicate)
+    (three_wanted (map (wanted_number d elements) (zip places (places_of d predicate))))
 
 -- one more request of a session
 abbrev pub with_request : Request → SessionWork → SessionWork
@@ -86,9 +92,13 @@ nothing_arranged = record { elements = []; facts = []; replicas = 1; sessions = 
 -- requests go to the session declared last; sessions name their replicas from 1
 abbrev pub with_arrangement : Declared → Arranged → Form → Arranged
 with_arrangement d a (Elem sort names) = record a { elements = with_elements d a.elements sort names }
-with_arrangement d a (Base predicate names) = record a { facts = a.facts ++ fact_said d a.elements predicate names ∷ [] }
+with_arrangement d a (Base predicate names) =
+    record a { facts = a.facts ++ fact_said d a.elements predicate names ∷ [] }
 with_arrangement d a (Replicas number) = record a { replicas = number }
-with_arrangement d a (Session number) = record a { sessions = a.sessions ++ record { replica = number - 1; requests = [] } ∷ [] }
-with_arrangement d a (Do operation names) = record a { sessions = with_last (with_request (do_said d a.elements operation names)) a.sessions }
-with_arrangement d a (Show predicate places) = record a { sessions = with_last (with_request (show_said d a.elements predicate places)) a.sessions }
+with_arrangement d a (Session number) =
+    record a { sessions = a.sessions ++ record { replica = number - 1; requests = [] } ∷ [] }
+with_arrangement d a (Do operation names) =
+    record a { sessions = with_last (with_request (do_said d a.elements operation names)) a.sessions }
+with_arrangement d a (Show predicate places) =
+    record a { sessions = with_last (with_request (show_said d a.elements predicate places)) a.sessions }
 with_arrangement d a _ = a

@@ -6,19 +6,21 @@
 --   IsDocumentOf forms document   the document that these lines give
 --   ReadsAs bytes document        the bytes read as the document
 --   IsRefusedLine s text kind     a line of this text is refused so, given what stands before it
---   IsRefused bytes line kind     the bytes are refused at the lowest line where a refusal holds, by the least kind there
+--   IsRefused bytes line kind     the bytes are refused at the lowest line where a refusal holds, by the least kind
+--                                 there
 use Rattle.std.specs.Prelude.{◌≡◌, ℕ, true, false, List, length, take, slice_get, None, Some}
 use Rattle.std.specs.List.{AllZip}
 use Rattle.ipa_text.specs.Lines.{line_text, lines_of, last_line}
 use Rattle.ipa_text.specs.Tokens.{IsCutInto, IsBadByte}
 use Rattle.ipa_text.specs.declared.numbering.Line.{Line}
 use Rattle.ipa_text.specs.declared.tokens.Token.{Token}
+use Rattle.ipa_logic.specs.Facts.{has, IsStateOf}
 use Rattle.ipa_logic.specs.declared.facts.Fact.{Fact}
 use Rattle.ipa_forms.specs.Forms.{HasForm, is_existential}
 use Rattle.ipa_reader.specs.Standings.{standing_of}
 use Rattle.ipa_reader.specs.Refusals.{refusal_at}
-use Rattle.ipa_declared.specs.Meaning.{specification_of}
-use Rattle.ipa_reader.specs.Setups.{size_list, IsStateOf, IsRefusedAtEnd, IsKept}
+use Rattle.ipa_names.specs.Meaning.{specification_of}
+use Rattle.ipa_reader.specs.Setups.{size_list, IsRefusedAtEnd, IsKept}
 use Rattle.ipa_forms.specs.declared.forms.Form.{Form}
 use Rattle.ipa_reader.specs.declared.standing.Standing.{Standing}
 use Rattle.ipa_reader.specs.declared.document.Document.{Document}
@@ -41,7 +43,7 @@ pub record IsDocumentOf (forms : List Form) (document : Document) : Type 0 where
   pub spec : document.spec ≡ specification_of (standing_of forms).declared
   pub elements : document.setup.elements ≡ (standing_of forms).arranged.elements
   pub universe : document.setup.universe.sizes ≡ size_list (standing_of forms).arranged.elements
-  pub base : IsStateOf (standing_of forms).arranged.facts document.setup.base
+  pub base : IsStateOf (has (standing_of forms).arranged.facts) document.setup.base
   pub replicas : document.setup.replicas ≡ (standing_of forms).arranged.replicas
   pub sessions : document.setup.sessions ≡ (standing_of forms).arranged.sessions
 
@@ -98,9 +100,10 @@ pub record IsRefusedBase (bytes : List ℕ) (number : ℕ) (kind : DocKind) : Ty
   pub said : SayEach bytes (lines_of bytes) forms
   pub accepted : AreAccepted forms
   pub state : List Fact
-  pub base : IsStateOf (standing_of forms).arranged.facts state
+  pub base : IsStateOf (has (standing_of forms).arranged.facts) state
   pub number_is : last_line bytes ≡ number
-  pub refused : IsRefusedAtEnd (specification_of (standing_of forms).declared) (standing_of forms).arranged.elements state kind
+  pub refused :
+      IsRefusedAtEnd (specification_of (standing_of forms).declared) (standing_of forms).arranged.elements state kind
 
 pub data IsRefused (bytes : List ℕ) (number : ℕ) (kind : DocKind) : Type 0 where
   at_line : IsRefusedAtLine bytes number kind → IsRefused bytes number kind

@@ -76,7 +76,8 @@ is_out_of_order place (Do operation elements) = not place.after_session
 is_out_of_order place (Show predicate places) = not place.after_session
 is_out_of_order place _ = place.after_setup
 
--- a line that goes on with an operation leaves open whether the next one may, and so for bounds; every other line decides it
+-- a line that goes on with an operation leaves open whether the next one may, and so for bounds; every other line
+-- decides it
 abbrev pub next_place : Place → Form → Place
 next_place place line = record {
   after_setup = place.after_setup || is_setup line;

@@ -5,8 +5,8 @@
 use Rattle.std.proofs.Common.{◌≡◌, false, None, refl}
 use Rattle.ipa_forms.specs.declared.forms.Form.{Form}
 use Rattle.ipa_forms.specs.declared.forms.Form.TheVariants.{Sort, Pred, Clause, Op, Need, Add, Del, Bound, Drops, Elem, Base, Replicas, Session, Do, Show}
-use Rattle.ipa_declared.specs.Flaws.{specification_line_has}
-use Rattle.ipa_declared.specs.declared.flaws.Flaw.{Flaw}
+use Rattle.ipa_names.specs.Flaws.{specification_line_has}
+use Rattle.ipa_names.specs.declared.flaws.Flaw.{Flaw}
 use Rattle.ipa_reader.specs.Ordering.{is_setup}
 use Rattle.ipa_reader.specs.Refusals.{line_has, is_missing, setup_limit_at}
 use Rattle.ipa_reader.specs.declared.standing.Standing.{Standing}

@@ -12,17 +12,17 @@ use Rattle.ipa_spec.specs.Limits.{fault_if, first_there}
 use Rattle.ipa_spec.specs.declared.names.Name.{Name}
 use Rattle.ipa_spec.specs.declared.faults.SpecFault.{SpecFault}
 use Rattle.ipa_spec.specs.declared.faults.SpecFault.TheVariants as fault
-use Rattle.ipa_declared.specs.Naming.{is_among}
-use Rattle.ipa_declared.specs.Scopes.{places_of, operation_named}
-use Rattle.ipa_declared.specs.Flaws.{use_has, sort_has, arity_named, specification_line_has}
-use Rattle.ipa_declared.specs.Counts.{limit_passed}
+use Rattle.ipa_names.specs.Naming.{is_among}
+use Rattle.ipa_names.specs.Scopes.{places_of, operation_named}
+use Rattle.ipa_names.specs.Flaws.{use_has, sort_has, arity_named, specification_line_has}
+use Rattle.ipa_names.specs.Counts.{limit_passed}
 use Rattle.ipa_reader.specs.Arrangements.{elements_of, parameter_sorts}
 use Rattle.ipa_reader.specs.Ordering.{is_out_of_order}
-use Rattle.ipa_declared.specs.declared.flaws.Flaw.{Flaw}
-use Rattle.ipa_declared.specs.declared.flaws.Flaw.TheVariants.{Arity, SortMismatch, UnknownName, Duplicate, WildAdd, FreeVariable}
+use Rattle.ipa_names.specs.declared.flaws.Flaw.{Flaw}
+use Rattle.ipa_names.specs.declared.flaws.Flaw.TheVariants.{Arity, SortMismatch, UnknownName, Duplicate, WildAdd, FreeVariable}
 use Rattle.ipa_forms.specs.declared.forms.Form.{Form}
 use Rattle.ipa_forms.specs.declared.forms.Form.TheVariants.{Elem, Base, Replicas, Session, Do, Show}
-use Rattle.ipa_declared.specs.declared.declared.Declared.{Declared}
+use Rattle.ipa_names.specs.declared.declared.Declared.{Declared}
 use Rattle.ipa_reader.specs.declared.sessions.SessionWork.{SessionWork}
 use Rattle.ipa_reader.specs.declared.refusals.DocKind.{DocKind}
 use Rattle.ipa_reader.specs.declared.refusals.DocKind.TheVariants.{Spec, Order, UnknownElement, SetupLimit}
@@ -39,7 +39,8 @@ parameter_count d operation = option_map (λ o. length o.params) (operation_name
 
 -- a line has a flaw: a setup line has at most one of arity, of an unknown name or of a duplicate
 unfoldable pub line_has : Flaw → Standing → Form → Bool
-line_has flaw s (Elem sort names) = sort_has flaw s.declared sort || elements_have flaw (elements_of s.declared s.arranged.elements sort) names
+line_has flaw s (Elem sort names) =
+    sort_has flaw s.declared sort || elements_have flaw (elements_of s.declared s.arranged.elements sort) names
 line_has flaw s (Base predicate names) = use_has flaw (arity_named s.declared predicate) (length names)
 line_has flaw s (Replicas number) = false
 line_has flaw s (Session number) = false
@@ -90,7 +91,8 @@ abbrev pub replicas_outside : ℕ → Option DocKind
 replicas_outside number = if nat_le 1 number && nat_le number 8 then None else Some (SetupLimit 15 number)
 
 abbrev pub setup_limit_at : Standing → Form → Option DocKind
-setup_limit_at s (Elem sort names) = setup_above 14 256 (length (elements_of s.declared s.arranged.elements sort) + length names)
+setup_limit_at s (Elem sort names) =
+    setup_above 14 256 (length (elements_of s.declared s.arranged.elements sort) + length names)
 setup_limit_at s (Replicas number) = replicas_outside number
 setup_limit_at s (Session number) = setup_above 16 16 (length s.arranged.sessions + 1)
 setup_limit_at s (Do operation names) = setup_above 17 16384 (request_count s.arranged.sessions + 1)

@@ -3,23 +3,22 @@
 --   IsSetup-prop, IsKept-prop   of what a setup keeps, and of a base that is not refused
 use Rattle.std.specs.Prelude.{◌≡◌, ℕ, ◌<◌, ◌≤◌, Bool, true, false, List, length, slice_get, Some}
 use Rattle.std.proofs.Props.{props}
-use Rattle.ipa_spec.specs.Actions.{sorts_of_vars}
 use Rattle.ipa_spec.specs.Faults.{has_repeat}
 use Rattle.ipa_spec.specs.declared.names.Name.{Name}
 use Rattle.ipa_spec.specs.declared.bounds.Bound.{Bound}
 use Rattle.ipa_spec.specs.declared.clauses.Clause.{Clause}
-use Rattle.ipa_spec.specs.declared.predicates.Predicate.{Predicate}
 use Rattle.ipa_spec.specs.declared.specification.Specification.{Specification}
 use Rattle.ipa_logic.specs.Facts.{Universe, has}
 use Rattle.ipa_logic.specs.Groups.{group_of, Within}
-use Rattle.ipa_logic.specs.Truth.{instance_true, IsOver, KeepsClause, Keeps}
+use Rattle.ipa_logic.specs.Truth.{instance_true, IsValues, KeepsClause, Keeps}
 use Rattle.ipa_logic.specs.declared.facts.Fact.{Fact}
 use Rattle.ipa_reader.specs.Arrangements.{elements_at}
 use Rattle.ipa_reader.specs.Refusals.{request_count}
 use Rattle.ipa_reader.specs.Setups.{element_count, size_list, instance_count, greatest_instance_count, IsSetup, IsKept}
 use Rattle.ipa_reader.specs.declared.sessions.SessionWork.{SessionWork}
 
-pub IsSetup-prop : (sizes : List ℕ) (elements : List (List Name)) (replicas : ℕ) (sessions : List SessionWork) → IsProp (IsSetup sizes elements replicas sessions)
+pub IsSetup-prop : (sizes : List ℕ) (elements : List (List Name)) (replicas : ℕ) (sessions : List SessionWork) →
+    IsProp (IsSetup sizes elements replicas sessions)
 IsSetup-prop sizes elements replicas sessions x y =
     let lists : IsProp (length elements ≤ 8) = hlevel props in
     let counts : IsProp (sizes ≡ size_list elements) = hlevel props in
@@ -28,7 +27,8 @@ IsSetup-prop sizes elements replicas sessions x y =
     let some_replica : IsProp (0 < replicas) = hlevel props in
     let replica_count : IsProp (replicas ≤ 8) = hlevel props in
     let session_count : IsProp (length sessions ≤ 16) = hlevel props in
-    let session_replicas : IsProp ((n : ℕ) (work : SessionWork) → slice_get sessions n ≡ Some work → work.replica < replicas) = hlevel props in
+    let session_replicas : IsProp
+    ((n : ℕ) (work : SessionWork) → slice_get sessions n ≡ Some work → work.replica < replicas) = hlevel props in
     let requests : IsProp (request_count sessions ≤ 16384) = hlevel props in
     λ i. record {
       lists = lists x.lists y.lists i;
@@ -42,13 +42,17 @@ IsSetup-prop sizes elements replicas sessions x y =
       requests = requests x.requests y.requests i;
     }
 
-KeepsClause-prop : (ps : List Predicate) (sizes : Universe) (t : Fact → Bool) (c : Clause) → IsProp (KeepsClause ps sizes t c)
-KeepsClause-prop ps sizes t c x y =
-    let instances : IsProp ((values : List ℕ) → IsOver sizes (sorts_of_vars c.vars) values → instance_true ps t values c ≡ true) = hlevel props in
+KeepsClause-prop : (s : Specification) (sizes : Universe) (t : Fact → Bool) (c : Clause) →
+    IsProp (KeepsClause s sizes t c)
+KeepsClause-prop s sizes t c x y =
+    let instances : IsProp ((values : List ℕ) → IsValues sizes c values → instance_true s t values c ≡ true) =
+    hlevel props in
     λ i. record { instances = instances x.instances y.instances i }
 
 Keeps-prop : (s : Specification) (sizes : Universe) (t : Fact → Bool) → IsProp (Keeps s sizes t)
-Keeps-prop s sizes t x y = λ i. record { clauses = λ k c e. KeepsClause-prop s.predicates sizes t c (x.clauses k c e) (y.clauses k c e) i }
+Keeps-prop s sizes t x y = λ i. record {
+  clauses = λ k c e. KeepsClause-prop s sizes t c (x.clauses k c e) (y.clauses k c e) i;
+}
 
 Within-prop : (bounds : List Bound) (state : List Fact) → IsProp (Within bounds state)
 Within-prop bounds state x y =

@@ -2,21 +2,19 @@
 --
 --   IsSetup ..                  what a setup keeps: its elements, and the limits 14 to 17
 --   size_list elements          the number of elements of each of the eight sorts
---   IsStateOf facts state       the state whose true facts are these
 --   instance_count s sizes      the number of instances of all clauses over a universe
 --   IsNamed, IsNamedOver        the names of a broken instance, and of a bound that a group exceeds
---   IsRefusedAtEnd s elements state kind   the base is refused so: too many instances, a broken clause, or a group over a bound
+--   IsRefusedAtEnd s elements state kind   the base is refused so: too many instances, a broken clause, or a group over
+--                               a bound
 --   IsKept s sizes state        it is not refused
 use Rattle.std.specs.Prelude.{◌≡◌, ℕ, ◌*◌, ◌<◌, ◌≤◌, false, List, [], ◌∷◌, length, map, sum_by, fold, slice_get, Option, Some, option_and_then}
-use Rattle.std.specs.List.{list_any}
-use Rattle.std.specs.Ordering.{is_eq}
 use Rattle.ipa_spec.specs.Actions.{sorts_of_vars}
 use Rattle.ipa_spec.specs.Faults.{has_repeat}
 use Rattle.ipa_spec.specs.declared.names.Name.{Name}
 use Rattle.ipa_spec.specs.declared.clauses.Clause.{Clause}
 use Rattle.ipa_spec.specs.declared.specification.Specification.{Specification}
-use Rattle.ipa_logic.specs.Facts.{Universe, size_of, fact_cmp, has, IsRising}
-use Rattle.ipa_logic.specs.Truth.{element_of, Keeps, IsFirstBroken}
+use Rattle.ipa_logic.specs.Facts.{Universe, size_of, has}
+use Rattle.ipa_logic.specs.Truth.{value_at, Keeps, IsFirstBroken}
 use Rattle.ipa_logic.specs.DueDrops.{IsFirstOver}
 use Rattle.ipa_logic.specs.declared.facts.Broken.{Broken}
 use Rattle.ipa_logic.specs.Groups.{Within}
@@ -35,7 +33,8 @@ abbrev pub size_list : List (List Name) → List ℕ
 size_list elements = map (element_count elements) (0 ∷ 1 ∷ 2 ∷ 3 ∷ 4 ∷ 5 ∷ 6 ∷ 7 ∷ [])
 
 -- each list of elements has as many names as the universe has elements of the sort, none twice; limits 14 to 17
-pub record IsSetup (sizes : List ℕ) (elements : List (List Name)) (replicas : ℕ) (sessions : List SessionWork) : Type 0 where
+pub record IsSetup (sizes : List ℕ) (elements : List (List Name)) (replicas : ℕ)
+    (sessions : List SessionWork) : Type 0 where
   pub lists : length elements ≤ 8
   pub counts : sizes ≡ size_list elements
   pub apart : (n : ℕ) → has_repeat (λ name. name) (elements_at elements n) ≡ false
@@ -46,10 +45,6 @@ pub record IsSetup (sizes : List ℕ) (elements : List (List Name)) (replicas : 
   pub session_replicas : (n : ℕ) (work : SessionWork) → slice_get sessions n ≡ Some work → work.replica < replicas
   pub requests : request_count sessions ≤ 16384
 
-pub record IsStateOf (facts state : List Fact) : Type 0 where
-  pub rising : IsRising state
-  pub members : (f : Fact) → has state f ≡ list_any (λ g. is_eq (fact_cmp g f)) facts
-
 -- the number of values of some variables, by their sorts
 abbrev pub value_count : Universe → List ℕ → ℕ
 value_count sizes sorts = fold (λ n sort. n * size_of sizes sort) 1 sorts
@@ -59,13 +54,17 @@ instance_count s sizes = sum_by (λ c. value_count sizes (sorts_of_vars c.vars))
 
 -- the name of the element that a variable stands for; none past the variables
 abbrev pub element_name : List (List Name) → List ℕ → List ℕ → ℕ → Option Name
-element_name elements sorts values v = option_and_then (λ sort. slice_get (elements_at elements sort) (element_of values v)) (slice_get sorts v)
+element_name elements sorts values v =
+    option_and_then (λ sort. slice_get (elements_at elements sort) (value_at values v)) (slice_get sorts v)
 
 abbrev pub element_names : List (List Name) → List ℕ → List ℕ → List (Option Name)
-element_names elements sorts values = element_name elements sorts values 0 ∷ element_name elements sorts values 1 ∷ element_name elements sorts values 2 ∷ element_name elements sorts values 3 ∷ []
+element_names elements sorts values =
+    element_name elements sorts values 0 ∷ element_name elements sorts values 1 ∷ element_name elements sorts values 2
+    ∷ element_name elements sorts values 3 ∷ []
 
 -- the clause's name and the names of the elements are those of the instance
-pub record IsNamed (s : Specification) (elements : List (List Name)) (broken : Broken) (name : Name) (names : List (Option Name)) : Type 0 where
+pub record IsNamed (s : Specification) (elements : List (List Name)) (broken : Broken) (name : Name)
+    (names : List (Option Name)) : Type 0 where
   pub clause : Clause
   pub declared : slice_get s.clauses broken.clause ≡ Some clause
   pub name_is : name ≡ clause.name
@@ -81,9 +80,16 @@ greatest_instance_count = 16777216
 
 -- the limit of instances comes first, then the clauses, then the bounds
 abbrev pub IsRefusedAtEnd : Specification → List (List Name) → List Fact → DocKind → Type 0
-IsRefusedAtEnd s elements state (SetupLimit which found) = (which ≡ 18) × (found ≡ instance_count s (size_list elements)) × (greatest_instance_count < instance_count s (size_list elements))
-IsRefusedAtEnd s elements state (BaseClause broken name names) = (instance_count s (size_list elements) ≤ greatest_instance_count) × IsFirstBroken s (size_list elements) (has state) broken.clause broken.values × IsNamed s elements broken name names
-IsRefusedAtEnd s elements state (BaseOver n name) = (instance_count s (size_list elements) ≤ greatest_instance_count) × Keeps s (size_list elements) (has state) × IsNamedOver s state n name
+IsRefusedAtEnd s elements state (SetupLimit which found) =
+    (which ≡ 18) × (found ≡ instance_count s (size_list elements))
+    × (greatest_instance_count < instance_count s (size_list elements))
+IsRefusedAtEnd s elements state (BaseClause broken name names) =
+    (instance_count s (size_list elements) ≤ greatest_instance_count)
+    × IsFirstBroken s (size_list elements) (has state) broken.clause broken.values
+    × IsNamed s elements broken name names
+IsRefusedAtEnd s elements state (BaseOver n name) =
+    (instance_count s (size_list elements) ≤ greatest_instance_count) × Keeps s (size_list elements) (has state)
+    × IsNamedOver s state n name
 IsRefusedAtEnd s elements state _ = ⊥
 
 pub record IsKept (s : Specification) (sizes : Universe) (state : List Fact) : Type 0 where

@@ -9,13 +9,13 @@
 use Rattle.std.specs.Prelude.{◌≡◌, ℕ, ◌<◌, ◌≤◌, ◌++◌, Bool, false, List, [], length}
 use Rattle.ipa_spec.specs.Faults.{has_repeat}
 use Rattle.ipa_spec.specs.declared.names.Name.{Name}
-use Rattle.ipa_declared.specs.Soundness.{EachOf, IsSound}
+use Rattle.ipa_names.specs.Soundness.{EachOf, IsSound}
 use Rattle.ipa_reader.specs.Arrangements.{elements_at, elements_of}
 use Rattle.ipa_reader.specs.Refusals.{request_count}
 use Rattle.ipa_forms.specs.declared.forms.Form.{Form}
 use Rattle.ipa_forms.specs.declared.forms.Form.TheVariants.{Elem, Session}
 use Rattle.ipa_reader.specs.declared.sessions.SessionWork.{SessionWork}
-use Rattle.ipa_declared.specs.declared.declared.Declared.{Declared}
+use Rattle.ipa_names.specs.declared.declared.Declared.{Declared}
 use Rattle.ipa_reader.specs.declared.standing.Arranged.{Arranged}
 use Rattle.ipa_reader.specs.declared.standing.Standing.{Standing}
 

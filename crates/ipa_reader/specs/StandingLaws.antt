@@ -10,19 +10,20 @@ use Rattle.std.proofs.lemmas.List.Sums.{fold-append}
 use Rattle.std.proofs.lemmas.List.Folds.{list_any-append}
 use Rattle.ipa_reader.specs.Ordering.{is_setup, is_operation, is_operation_part, is_bound, is_bound_part, is_replicas, is_session, last_but, place_of, next_place}
 use Rattle.ipa_reader.specs.Standings.{with_said, said_of, standing_of, next_standing}
-use Rattle.ipa_declared.specs.Declarations.{nothing_declared}
+use Rattle.ipa_names.specs.Declarations.{nothing_declared}
 use Rattle.ipa_reader.specs.Arrangements.{nothing_arranged}
 use Rattle.ipa_reader.specs.Refusals.{refusal_at}
 use Rattle.ipa_reader.specs.Documents.{AreAccepted}
 use Rattle.ipa_forms.specs.declared.forms.Form.{Form}
-use Rattle.ipa_declared.specs.ListLaws.{at_push}
+use Rattle.ipa_names.specs.ListLaws.{at_push}
 
 or_false : (a b : Bool) → (a || (b || false)) ≡ (a || b)
 or_false true b = refl
 or_false false true = refl
 or_false false false = refl
 
-any_more : (test : Form → Bool) (lines : List Form) (line : Form) → list_any test (lines ++ line ∷ []) ≡ (list_any test lines || test line)
+any_more : (test : Form → Bool) (lines : List Form) (line : Form) →
+    list_any test (lines ++ line ∷ []) ≡ (list_any test lines || test line)
 any_more test lines line = list_any-append test lines (line ∷ []) ∙ or_false (list_any test lines) (test line)
 
 -- the last line but those that are skipped, with one more line
@@ -43,12 +44,14 @@ place_of-push lines line = λ i. record {
   after_session = any_more is_session lines line i;
 }
 
-pub standing_of-push : (lines : List Form) (line : Form) → standing_of (lines ++ line ∷ []) ≡ next_standing (standing_of lines) line
+pub standing_of-push : (lines : List Form) (line : Form) →
+    standing_of (lines ++ line ∷ []) ≡ next_standing (standing_of lines) line
 standing_of-push lines line =
     let said : said_of (lines ++ line ∷ []) ≡ with_said (said_of lines) line = fold-append with_said (nothing_declared, nothing_arranged) lines (line ∷ []) in
     λ i. record { place = place_of-push lines line i; declared = (said i).0; arranged = (said i).1 }
 
-pub accepted_push : (lines : List Form) (line : Form) → AreAccepted lines → refusal_at (standing_of lines) line ≡ None → AreAccepted (lines ++ line ∷ [])
+pub accepted_push : (lines : List Form) (line : Form) → AreAccepted lines → refusal_at (standing_of lines) line ≡ None →
+    AreAccepted (lines ++ line ∷ [])
 accepted_push lines line h e = record {
   each = λ k form is. elim (at_push lines line k form is) [
     | inl g ↦

@@ -3,11 +3,11 @@
 --   next_standing s line    what stands behind the line
 --   standing_of lines       what stands behind these lines: what they declare and say, and where the next one stands
 use Rattle.std.specs.Prelude.{List, fold}
-use Rattle.ipa_declared.specs.Declarations.{nothing_declared, with_declaration}
+use Rattle.ipa_names.specs.Declarations.{nothing_declared, with_declaration}
 use Rattle.ipa_reader.specs.Arrangements.{nothing_arranged, with_arrangement}
 use Rattle.ipa_reader.specs.Ordering.{place_of, next_place}
 use Rattle.ipa_forms.specs.declared.forms.Form.{Form}
-use Rattle.ipa_declared.specs.declared.declared.Declared.{Declared}
+use Rattle.ipa_names.specs.declared.declared.Declared.{Declared}
 use Rattle.ipa_reader.specs.declared.standing.Arranged.{Arranged}
 use Rattle.ipa_reader.specs.declared.standing.Standing.{Standing}
 
@@ -22,4 +22,8 @@ abbrev pub standing_of : List Form → Standing
 standing_of lines = record { place = place_of lines; declared = (said_of lines).0; arranged = (said_of lines).1 }
 
 abbrev pub next_standing : Standing → Form → Standing
-next_standing s line = record { place = next_place s.place line; declared = with_declaration s.declared line; arranged = with_arrangement s.declared s.arranged line }
+next_standing s line = record {
+  place = next_place s.place line;
+  declared = with_declaration s.declared line;
+  arranged = with_arrangement s.declared s.arranged line;
+}

@@ -2,8 +2,8 @@
 ghost use Rattle.std.specs.Prelude.{◌≡◌, ◌-◌, ◌<◌, ◌≤◌, ◌++◌, [], ◌∷◌, false, IfOk, IfSome, length, map, slice_index_or};
 ghost use Rattle.std.specs.List.{zip};
 ghost use Rattle.ipa_spec.specs.Faults.{has_repeat};
-ghost use Rattle.ipa_declared.specs.Naming.{number_in, with_last};
-ghost use Rattle.ipa_declared.specs.Meaning.{three, predicate_number};
+ghost use Rattle.ipa_names.specs.Naming.{number_in, with_last};
+ghost use Rattle.ipa_names.specs.Meaning.{three, predicate_number};
 ghost use Rattle.ipa_reader.specs.Arrangements.{elements_of, with_elements, element_number, element_numbers, four, operation_number, fact_said, do_said, wanted_number, three_wanted, show_said, with_request, nothing_arranged, with_arrangement};
 ghost use Rattle.ipa_reader.specs.Soundness.{IsWithinElements, NamesReplica, NamesNew};
 
@@ -12,9 +12,9 @@ use crate::elements::{element_number, parameter_sorts};
 use crate::names::Names;
 use crate::sessions::SessionWork;
 use crate::standing::Arranged;
-use ipa_declared::{Declared, ending_with, places_of, predicate_number, same_name};
 use ipa_forms::Form;
 use ipa_logic::{Fact, Request};
+use ipa_names::{Declared, ending_with, places_of, predicate_number, same_name};
 use ipa_spec::{List, Name};
 use std::alloc::{AllocError, Global};
 

@@ -2,8 +2,8 @@
 ghost use Rattle.std.specs.Prelude.{◌≡◌, ℕ, ◌*◌, ◌<◌, ◌≤◌, length, slice_get, IfOk, MatchOption};
 ghost use Rattle.std.specs.Option.{option_map_or};
 ghost use Rattle.ipa_spec.specs.Actions.{sorts_of_vars};
-ghost use Rattle.ipa_logic.specs.Facts.{size_of};
-ghost use Rattle.ipa_reader.specs.Setups.{element_count, size_list, element_name, element_names, value_count, instance_count, IsStateOf, IsRefusedAtEnd, IsKept};
+ghost use Rattle.ipa_logic.specs.Facts.{size_of, has, IsStateOf};
+ghost use Rattle.ipa_reader.specs.Setups.{element_count, size_list, element_name, element_names, value_count, instance_count, IsRefusedAtEnd, IsKept};
 ghost use Rattle.ipa_reader.specs.Soundness.{IsWithinElements};
 
 use crate::elements::elements_at;
@@ -11,6 +11,7 @@ use crate::names::Names;
 use crate::refusals::DocKind;
 use ipa_bounds::first_drop;
 use ipa_logic::{Fact, State, Universe, keeps, size_of};
+use ipa_spec::laws::spec_is_fit;
 use ipa_spec::{List, Name, Spec, Var};
 use std::alloc::{AllocError, Global};
 
@@ -46,7 +47,7 @@ pub(crate) fn universe_of(elements: &List<Names>) -> Universe
 
 /// The state in which these facts are true.
 pub(crate) fn state_of(alloc: Global, facts: &[Fact]) -> Result<State, AllocError>
-    ensures { IfOk result (IsStateOf facts.now) }
+    ensures { IfOk result (IsStateOf (has facts.now)) }
 {
     let mut state = State::new(alloc);
     for fact in facts {
@@ -102,6 +103,7 @@ fn instance_count(spec: &Spec, universe: &Universe) -> u64
     requires { (sort : ℕ) → size_of universe.now.sizes sort ≤ 256 }
     ensures { result ≡ instance_count spec.now universe.now.sizes }
 {
+    spec_is_fit(spec);
     let mut total: u64 = 0;
     for clause in spec.clauses().as_slice() {
         total += value_count(universe, clause.vars.as_slice());

@@ -7,8 +7,8 @@ ghost use Rattle.ipa_reader.specs.declared.document.Document.{Document};
 ghost use Rattle.ipa_reader.specs.declared.document.Setup.{Setup};
 ghost use Rattle.ipa_reader.specs.declared.refusals.DocKind.{DocKind};
 
-use ipa_declared::is_faultless;
 use ipa_forms::one_form;
+use ipa_names::is_faultless;
 use ipa_text::one_cut;
 
 /// A text reads as one document, or is refused with one line and one kind, and never both.

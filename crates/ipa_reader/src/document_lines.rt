@@ -15,8 +15,8 @@ use crate::order::{Place, next_place};
 use crate::refusals::DocFault;
 use crate::refusing::refusal_at;
 use crate::standing::Standing;
-use ipa_declared::{nothing_declared, with_declaration};
 use ipa_forms::Form;
+use ipa_names::{nothing_declared, with_declaration};
 use ipa_text::Lines;
 use std::alloc::{AllocError, Global};
 

@@ -5,7 +5,7 @@ ghost use Rattle.ipa_spec.specs.declared.names.Name.{Name};
 ghost use Rattle.ipa_reader.specs.Arrangements.{elements_at, elements_of, with_more, with_elements};
 
 use crate::names::Names;
-use ipa_declared::{Declared, number_in};
+use ipa_names::{Declared, number_in};
 use ipa_spec::{List, Name};
 use std::alloc::{AllocError, Global};
 

@@ -1,15 +1,15 @@
 //! The elements of sorts, by names.
 ghost use Rattle.std.specs.Prelude.{◌≡◌, ◌≤◌, ◌++◌, IfOk, length, map};
 ghost use Rattle.std.specs.List.{list_any, zip};
-ghost use Rattle.ipa_declared.specs.Naming.{is_among, number_or_count};
+ghost use Rattle.ipa_names.specs.Naming.{is_among, number_or_count};
 ghost use Rattle.ipa_reader.specs.Arrangements.{elements_at, elements_of, element_number, parameter_sorts};
 ghost use Rattle.ipa_reader.specs.Soundness.{IsWithinElements};
 ghost use Rattle.ipa_reader.specs.Refusals.{elements_have, parameter_count, is_no_element, is_no_wanted};
 
 use crate::names::Names;
 use crate::standing::Standing;
-use ipa_declared::{Declared, Flaw, number_in, operation_named, stands_twice};
 use ipa_forms::Typed;
+use ipa_names::{Declared, Flaw, number_in, operation_named, stands_twice};
 use ipa_spec::{List, Name};
 use std::alloc::{AllocError, Global};
 

@@ -35,6 +35,3 @@ pub use reader::read_document;
 pub use refusals::{DocFault, DocKind};
 pub use sessions::SessionWork;
 pub use standing::{Arranged, Standing};
-
-#[cfg(test)]
-mod document_tests;

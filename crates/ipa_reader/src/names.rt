@@ -1,9 +1,9 @@
 //! Names in the order in which they are first seen, and the number of each by an index.
 ghost use Rattle.std.specs.Prelude.{◌≡◌, ◌<◌, ◌++◌, [], ◌∷◌, false, length, IfSome, OnOk};
-ghost use Rattle.ipa_declared.specs.Naming.{is_among, number_in, number_or_count};
+ghost use Rattle.ipa_names.specs.Naming.{is_among, number_in, number_or_count};
 
 use indexmap::IndexSet;
-use ipa_declared::equal_names;
+use ipa_names::equal_names;
 use ipa_spec::Name;
 use std::alloc::{AllocError, Global};
 use std::marker::Model;

@@ -10,7 +10,7 @@ use crate::document_lines::take_lines;
 use crate::element_lists::lists_of;
 use crate::refusals::DocFault;
 use crate::standing::Standing;
-use ipa_declared::specification_of;
+use ipa_names::specification_of;
 use ipa_text::last_line;
 use std::alloc::Global;
 

@@ -10,10 +10,10 @@ use crate::order::is_out_of_order;
 use crate::refusals::DocKind;
 use crate::sessions::SessionWork;
 use crate::standing::Standing;
-use ipa_declared::{
+use ipa_forms::Form;
+use ipa_names::{
     Flaw, arity_named, limit_passed, places_of, sort_has, specification_line_has, use_has,
 };
-use ipa_forms::Form;
 use ipa_spec::{List, Name, SpecFault};
 use std::alloc::{AllocError, Global};
 

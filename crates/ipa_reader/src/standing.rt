@@ -2,8 +2,8 @@
 use crate::names::Names;
 use crate::order::Place;
 use crate::sessions::SessionWork;
-use ipa_declared::Declared;
 use ipa_logic::Fact;
+use ipa_names::Declared;
 use ipa_spec::List;
 
 /// What the setup lines say, by numbers of what is declared before them.

@@ -81,7 +81,7 @@ clause_text s k values = clause_name_text s k ++ elements_text s (clause_sorts s
 
 -- the fact of a literal, or `not` and the fact; equalities have no fact
 abbrev pub literal_text : Specification → List ℕ → Literal → List ℕ
-literal_text s values (Holds a) = fact_text s (fact_of s.predicates values a)
-literal_text s values (Fails a) = codes "not " ++ fact_text s (fact_of s.predicates values a)
+literal_text s values (Holds a) = fact_text s (fact_of s values a)
+literal_text s values (Fails a) = codes "not " ++ fact_text s (fact_of s values a)
 literal_text s values (Same v w) = []
 literal_text s values (Differ v w) = []

@@ -38,7 +38,8 @@ kind_text (Spec fault) = spec_fault_text fault
 kind_text Order = codes "order"
 kind_text UnknownElement = codes "element"
 kind_text (SetupLimit which found) = limit_text which found
-kind_text (BaseClause broken name elements) = codes "base clause " ++ applied_text name_text name (filter_map (λ element. element) elements)
+kind_text (BaseClause broken name elements) =
+    codes "base clause " ++ applied_text name_text name (filter_map (λ element. element) elements)
 kind_text (BaseOver bound name) = codes "base over " ++ name_text name
 
 -- the line that refuses a document at a line

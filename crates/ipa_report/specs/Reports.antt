@@ -17,7 +17,9 @@ use Rattle.ipa_report.specs.Elements.{facts_text, action_text, clause_text, lite
 
 -- the literal that is lost in a conflict
 abbrev pub lost_text : Specification → Conflict → List ℕ
-lost_text s e = option_map_or (λ c. option_map_or (literal_text s e.values) (slice_get c.literals e.lost) []) (slice_get s.clauses e.clause) []
+lost_text s e =
+    option_map_or (λ c. option_map_or (literal_text s e.values) (slice_get c.literals e.lost) [])
+    (slice_get s.clauses e.clause) []
 
 -- the line that names the two actions and what they break
 unfoldable pub conflict_head : Specification → Conflict → List ℕ
@@ -37,12 +39,14 @@ conflict_text s e =
 -- the two lines of an unsafe drop
 unfoldable pub unsafe_text : Specification → UnsafeDrop → List ℕ
 unsafe_text s e =
-    (codes "unsafe " ++ action_text s (Drop e.bound) e.args ++ codes " breaks " ++ clause_text s e.clause e.values ++ codes "\n")
+    (codes "unsafe " ++ action_text s (Drop e.bound) e.args ++ codes " breaks " ++ clause_text s e.clause e.values
+    ++ codes "\n")
     ++ (codes "  before: " ++ facts_text s e.before ++ codes "\n")
 
 -- the last line, with the number of conflicts and that of unsafe drops
 abbrev pub count_text : ℕ → ℕ → List ℕ
-count_text conflicts drops = codes "conflicts " ++ decimal conflicts ++ codes ", unsafe drops " ++ decimal drops ++ codes "\n"
+count_text conflicts drops =
+    codes "conflicts " ++ decimal conflicts ++ codes ", unsafe drops " ++ decimal drops ++ codes "\n"
 
 -- all conflicts, then all unsafe drops, then their numbers
 abbrev pub report_text : Specification → Analysis → List ℕ

@@ -25,6 +25,3 @@ pub use elements::Element;
 pub use refusals::refusal;
 pub use reports::report;
 pub use widths::too_wide;
-
-#[cfg(test)]
-mod tests;

@@ -31,6 +31,3 @@ pub use laws::{every_line, one_cut, one_spelling, written_line, written_text};
 pub use numbering::{Line, Lines, last_line};
 pub use printing::Page;
 pub use tokens::{CutFault, Token, TokenKind};
-
-#[cfg(test)]
-mod tests;

@@ -14,7 +14,7 @@ returns c =
     (λ written. all_text c.args.spec.now c.args.page.now c.write_sorts.new.page c.write_predicates.new.page c.write_clauses.new.page c.write_operations.new.page c.write_bounds.new.page
     (c.in_ok-write_sorts.ensures ∙ ap (λ ss. c.args.page.now ++ flat_map (λ name. text_of (Sort name)) ss) sorts)
     (c.in_ok-write_predicates.ensures ∙ (λ i. c.write_sorts.new.page ++ flat_map (λ x. text_of (pred_form (sorts i) x)) ((c.as_slice.ensures ∙ predicates) i)))
-    (c.in_ok-write_clauses.ensures ∙ (λ i. c.write_predicates.new.page ++ flat_map (λ x. text_of (clause_form (sorts i) (predicates i) x)) ((c.as_slice-2.ensures ∙ c.clauses.ensures.value) i)))
+    (c.in_ok-write_clauses.ensures ∙ (λ i. c.write_predicates.new.page ++ flat_map (λ x. text_of (clause_form (sorts i) (predicates i) x)) ((c.as_slice-2.ensures ∙ c.clauses.ensures) i)))
     (c.in_ok-write_operations.ensures ∙ (λ i. c.write_clauses.new.page ++ flat_map (λ x. flat_map text_of (operation_forms (sorts i) (predicates i) x)) ((c.as_slice-3.ensures ∙ c.operations.ensures) i)))
     (written ∙ (λ i. c.write_operations.new.page ++ flat_map (λ x. flat_map text_of (bound_forms (predicates i) x)) ((c.as_slice-4.ensures ∙ c.bounds.ensures) i))))
     c.write_bounds.ensures

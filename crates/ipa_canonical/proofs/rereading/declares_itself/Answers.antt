@@ -1,6 +1,6 @@
 use Rattle.std.proofs.Common.{ap, ◌∙◌}
 use Rattle.ipa_spec.specs.FaultlessFits.{parts_of-faultless, IsFit-from_faultless}
-use Rattle.ipa_declared.specs.Meaning.{specification_of}
+use Rattle.ipa_names.specs.Meaning.{specification_of}
 use Rattle.ipa_canonical.proofs.DeclaredBack.{declared_named}
 use Rattle.ipa_canonical.proofs.SameForms.{same_names}
 use Rattle.ipa_canonical.proofs.PartsBack.{specification_back}

@@ -2,8 +2,8 @@ use Rattle.std.proofs.Common.{ap, subst, ◌∙◌}
 use Rattle.std.proofs.lemmas.List.Elements.{recursion_from_All}
 use Rattle.ipa_text.specs.Lines.{lines_of}
 use Rattle.ipa_forms.specs.Layout.{line_of}
-use Rattle.ipa_declared.specs.Meaning.{specification_of}
-use Rattle.ipa_reader.specs.Setups.{IsStateOf}
+use Rattle.ipa_names.specs.Meaning.{specification_of}
+use Rattle.ipa_logic.specs.Facts.{has, IsStateOf}
 use Rattle.ipa_reader.specs.Standings.{standing_of}
 use Rattle.ipa_canonical.specs.Canonical.{canonical_text, forms_of}
 use Rattle.ipa_canonical.specs.Sentences.{IsSaidBy}
@@ -19,7 +19,7 @@ returns c = λ s document h shaped literals reads.
     record {
       spec = reads.document_is.spec ∙ ap (λ fs. specification_of (standing_of fs).declared) forms ∙ c.declares_itself.ensures s h shaped;
       elements = reads.document_is.elements ∙ ap (λ a. a.elements) arranged;
-      base = subst (λ facts. IsStateOf facts document.setup.base) (ap (λ a. a.facts) arranged) reads.document_is.base;
+      base = subst (λ facts. IsStateOf (has facts) document.setup.base) (ap (λ a. a.facts) arranged) reads.document_is.base;
       replicas = reads.document_is.replicas ∙ ap (λ a. a.replicas) arranged;
       sessions = reads.document_is.sessions ∙ ap (λ a. a.sessions) arranged;
     }

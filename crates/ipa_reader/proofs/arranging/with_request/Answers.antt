@@ -1,5 +1,5 @@
 use Rattle.ipa_reader.specs.Arrangements.{with_request}
-use Rattle.ipa_declared.specs.ListLaws.{with_last_put}
+use Rattle.ipa_names.specs.ListLaws.{with_last_put}
 use Rattle.ipa_reader.proofs.arranging.with_request.Goals as goal
 
 pub returns-in_ok-all-in-Some : goal.returns-in_ok-all-in-Some

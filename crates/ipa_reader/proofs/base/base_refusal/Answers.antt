@@ -13,7 +13,7 @@ returns-in-Some c = (
   subst (λ sizes. IsFirstBroken c.args.spec.now sizes (has c.args.base.now) c.in-Some.broken.clause c.in-Some.broken.values) c.requires.sizes c.in-Some.ensures,
   record {
     clause = c.in_ok-clause.clause.now;
-    declared = cc (c.in_ok-clause.ensures, c.clauses.ensures.value);
+    declared = cc (c.in_ok-clause.ensures, c.clauses.ensures);
     name_is = refl;
     names_are = c.element_names.ensures ∙ ap (λ vars. element_names c.args.elements.now (sorts_of_vars vars) c.in-Some.broken.values) c.as_slice.ensures;
   },

@@ -1,5 +1,5 @@
 use Rattle.std.proofs.Common.{◌≡◌, false, sym, subst, arith}
-use Rattle.ipa_declared.specs.Naming.{is_among}
+use Rattle.ipa_names.specs.Naming.{is_among}
 use Rattle.ipa_reader.proofs.MoreLemmas.{name_new}
 use Rattle.ipa_reader.proofs.element_lists.extended.Goals as goal
 

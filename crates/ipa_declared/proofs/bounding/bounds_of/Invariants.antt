@@ -1,7 +1,0 @@
-use Rattle.std.proofs.Common.{◌≡◌, take}
-use Rattle.std.specs.Prelude.{map}
-use Rattle.ipa_declared.specs.Meaning.{bound_of}
-use Rattle.ipa_declared.proofs.bounding.bounds_of.Given as goal
-
-abbrev pub invariant-loop-bound : goal.invariant-loop-bound
-invariant-loop-bound l = l.all ≡ map (bound_of l.declared) (take l.bound-index l.bound-items)

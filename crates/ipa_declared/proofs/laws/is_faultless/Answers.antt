@@ -1,5 +1,0 @@
-use Rattle.ipa_declared.proofs.Faultless.{specification_faultless}
-use Rattle.ipa_declared.proofs.laws.is_faultless.Goals as goal
-
-pub returns : goal.returns
-returns c = specification_faultless

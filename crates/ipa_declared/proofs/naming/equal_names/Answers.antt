@@ -1,5 +1,0 @@
-use Rattle.ipa_declared.proofs.RepeatLemmas.{equal-same_name}
-use Rattle.ipa_declared.proofs.naming.equal_names.Goals as goal
-
-pub returns : goal.returns
-returns c = equal-same_name
