@@ -1,0 +1,4 @@
+pub mod ClosedLemmas
+pub mod StateLemmas
+pub mod DropLemmas
+pub mod ReasonLemmas

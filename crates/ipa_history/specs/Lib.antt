@@ -1,0 +1,15 @@
+pub mod Histories
+pub mod Values
+pub mod Ages
+pub mod Legality
+pub mod Faults
+pub mod Answers
+pub mod PlainDrops
+pub mod LawfulEnds
+pub mod MemberLaws
+pub mod EffectLaws
+pub mod HistoryLaws
+pub mod NextLaws
+pub mod PushLaws
+pub mod AgeLaws
+pub mod Closings
