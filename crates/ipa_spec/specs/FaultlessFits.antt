@@ -9,16 +9,16 @@
 --   SpecificationParts s   no part has a fault of any kind, and no two parts of a kind have one name
 --   parts_of-faultless     so it is in a faultless specification
 --   IsFit-from_faultless   it is fit
-use Rattle.std.proofs.Common.{◌≡◌, ℕ, ◌<◌, ◌≤◌, Bool, true, false, ◌||◌, cond, leb, List, [], ◌∷◌, length, map, filter, take, Option, Some, None, refl, sym, ap, ◌∙◌, subst, arith, zero, suc}
-use Rattle.std.specs.List.{list_any, slice_get, slice_index}
+use Rattle.std.proofs.Common.{◌≡◌, ℕ, ◌+◌, ◌<◌, ◌≤◌, Bool, true, false, ◌||◌, cond, eqb, leb, List, [], ◌∷◌, length, map, take, Option, Some, None, refl, sym, ap, ◌∙◌, subst, arith, zero, suc, inl, inr}
+use Rattle.std.specs.List.{list_any, range_with_len, slice_get, slice_index}
 use Rattle.std.specs.Option.{option_map, option_map_or}
-use Rattle.std.proofs.lemmas.Bool.{or_parts, ltb-false, leb-false}
+use Rattle.std.proofs.lemmas.Bool.{or_parts, cases_lt, ltb-false, leb-false, ne_eqb}
 use Rattle.std.proofs.lemmas.Option.{slice_get-map, same_Some, get_or_from_slice_get, slice_get_within}
 use Rattle.std.proofs.lemmas.List.{length-map, length-take}
 use Rattle.ipa_spec.specs.Actions.{effects_of, needs_of, sorts_of, sorts_of_vars, place_sorts, drop_effect}
 use Rattle.ipa_spec.specs.Faults.{has_repeat, specification_has, names_have, constant_has, predicate_has, clause_has, operation_has, bound_has, variables_have, literal_has, effect_has, bound_places_have, bound_adds, undeclared_has}
-use Rattle.ipa_spec.specs.Limits.{fault_of, first_limit, first_there, fault_if, above, is_youngest, picks_youngest, youngest_count, faults_found, limits_passed, IsFaultless}
-use Rattle.ipa_spec.specs.Constants.{sort_of_constant, constants_of, constant_count}
+use Rattle.ipa_spec.specs.Limits.{fault_of, first_limit, first_there, fault_if, above, faults_found, limits_passed, IsFaultless}
+use Rattle.ipa_spec.specs.Constants.{constants_of, constant_count}
 use Rattle.ipa_spec.specs.Fits.{LiteralFits, EffectFits, IsFit}
 use Rattle.ipa_spec.specs.declared.faults.FaultKind.{FaultKind}
 use Rattle.ipa_spec.specs.declared.faults.FaultKind.TheVariants as kind
@@ -37,8 +37,6 @@ use Rattle.ipa_spec.specs.declared.operations.Operation.{Operation}
 use Rattle.ipa_spec.specs.declared.operations.Action.{Action}
 use Rattle.ipa_spec.specs.declared.operations.Action.TheVariants.{Op, Drop}
 use Rattle.ipa_spec.specs.declared.bounds.Bound.{Bound}
-use Rattle.ipa_spec.specs.declared.bounds.Pick.{Pick}
-use Rattle.ipa_spec.specs.declared.bounds.Pick.TheVariants.{Greatest, Youngest}
 
 -- where the first of a list is not there, none of them is
 pub none_there : (options : List (Option SpecFault)) → first_there options ≡ None →
@@ -370,47 +368,45 @@ effects_fit s h parts (Drop n) k e is =
     bound_effects_at s (slice_get s.bounds n) (arities_fit s h) parts
     (λ b f. bound_parts s b (parts.bounds n b f)) k e is
 
--- a list of no length has no items
-no_items : {X : Type 0} (xs : List X) → length xs ≤ 0 → xs ≡ []
-no_items [] h = refl
-no_items (x ∷ xs) h = absurd (omega arith)
+-- the sort of a declared constant is declared
+constant_sort_declared : (s : Specification) → SpecificationParts s → (n : ℕ) (c : Constant) →
+    slice_get s.constants n ≡ Some c → c.sort < length s.sorts
+constant_sort_declared s parts n c e = leb-false (length s.sorts) c.sort (parts.constants n c e kind.UnknownName)
 
--- no constant is declared
-no_constants : (s : Specification) → IsFaultless s → s.constants ≡ []
-no_constants s h =
-    no_items s.constants
-    (above-None 19 0 (length s.constants ∷ youngest_count s.bounds ∷ [])
-    (limits_of-faultless s h 13 _ refl) 0 _ refl)
+-- what holds of the sort of each constant that may be found holds of the sort that is found
+constant_sort_at : (P : ℕ → Type 0) (found : Option Constant) → ((c : Constant) → found ≡ Some c → P c.sort) →
+    (sort : ℕ) → option_map (λ c. c.sort) found ≡ Some sort → P sort
+constant_sort_at P None h sort e = cc
+constant_sort_at P (Some c) h sort e = subst P (same_Some _ _ e) (h c refl)
 
--- where the rest of the items do not pass, and the first does not, none does
-none_filtered_at : {X : Type 0} (test : X → Bool) (y : X) (ys : List X) (b : Bool) → test y ≡ b →
-    length (cond b (y ∷ filter test ys) (filter test ys)) ≤ 0 →
-    (length (filter test ys) ≤ 0 → (n : ℕ) (x : X) → slice_get ys n ≡ Some x → test x ≡ false) →
-    (n : ℕ) (x : X) → slice_get (y ∷ ys) n ≡ Some x → test x ≡ false
-none_filtered_at test y ys true is h rest n x e = absurd (omega arith)
-none_filtered_at test y ys false is h rest zero x e = subst (λ z. test z ≡ false) (same_Some _ _ e) is
-none_filtered_at test y ys false is h rest (suc n) x e = rest h n x e
+-- a sort past those of all constants has none
+none_past : (sorts : ℕ) (cs : List Constant) →
+    ((n : ℕ) (c : Constant) → slice_get cs n ≡ Some c → c.sort < sorts) → (sort : ℕ) → sorts ≤ sort →
+    length (constants_of cs sort) ≡ 0
+none_past sorts [] h sort past = refl
+none_past sorts (c ∷ cs) h sort past =
+    let below : c.sort < sorts = h 0 c refl in
+    let other : eqb c.sort sort ≡ false = ne_eqb c.sort sort (λ same. omega arith) in
+    let skipped : length (constants_of (c ∷ cs) sort) ≡ length (constants_of cs sort) =
+    ap (λ b. length (cond b (c ∷ constants_of cs sort) (constants_of cs sort))) other in
+    skipped ∙ none_past sorts cs (λ n d e. h (suc n) d e) sort past
 
--- where no item is left by a test, none passes it
-none_filtered : {X : Type 0} (test : X → Bool) (xs : List X) → length (filter test xs) ≤ 0 → (n : ℕ)
-    (x : X) → slice_get xs n ≡ Some x → test x ≡ false
-none_filtered test [] h n x e = cc
-none_filtered test (y ∷ ys) h n x e =
-    none_filtered_at test y ys (test y) refl h (none_filtered test ys) n x e
+-- what stands at a place of numbers in their order
+number_at : (start n k m : ℕ) → k < n → start + k ≡ m → slice_get (range_with_len start n) k ≡ Some m
+number_at start zero k m l e = absurd (omega arith)
+number_at start (suc n) zero m l e = ap (λ m. Some m) (omega arith)
+number_at start (suc n) (suc k) m l e = number_at (start + 1) n k m (omega arith) (omega arith)
 
--- a pick that is not the youngest is the greatest
-greatest_pick : (p : Pick) → is_youngest p ≡ false → p ≡ Greatest
-greatest_pick Greatest h = refl
-greatest_pick Youngest h = cc
-
--- each bound picks the greatest fact
-picks_greatest : (s : Specification) → IsFaultless s → (n : ℕ) (b : Bound) →
-    slice_get s.bounds n ≡ Some b → b.pick ≡ Greatest
-picks_greatest s h n b e =
-    greatest_pick b.pick
-    (none_filtered picks_youngest s.bounds
-    (above-None 19 0 (length s.constants ∷ youngest_count s.bounds ∷ [])
-    (limits_of-faultless s h 13 _ refl) 1 _ refl) n b e)
+-- each sort has at most 4 constants
+constants_within : (s : Specification) → IsFaultless s → SpecificationParts s → (sort : ℕ) →
+    constant_count s sort ≤ 4
+constants_within s h parts sort = elim (cases_lt sort (length s.sorts)) [
+  | inl within ↦
+      above-map 19 4 (constant_count s) (range_with_len 0 (length s.sorts)) (limits_of-faultless s h 13 _ refl) sort
+      sort (number_at 0 (length s.sorts) sort sort within (omega arith))
+  | inr past ↦
+      let none = none_past (length s.sorts) s.constants (constant_sort_declared s parts) sort past in omega arith
+]
 
 -- a faultless specification is fit
 pub IsFit-from_faultless : (s : Specification) → IsFaultless s → IsFit s
@@ -427,15 +423,10 @@ IsFit-from_faultless s h =
           above-None 7 32 (length s.operations ∷ []) (limits_of-faultless s h 6 _ refl) 0 _ refl;
       bound_count =
           above-None 11 8 (length s.bounds ∷ []) (limits_of-faultless s h 10 _ refl) 0 _ refl;
-      constant_sort = λ k sort e.
-          let nothing : s.constants ≡ [] = no_constants s h in
-          let at : sort_of_constant s k ≡ None = ap (λ cs. option_map (λ c. c.sort) (slice_get cs k)) nothing in
-          cc;
-      constant_most = λ sort.
-          let nothing : s.constants ≡ [] = no_constants s h in
-          let none : constant_count s sort ≡ 0 = ap (λ cs. length (constants_of cs sort)) nothing in
-          omega arith;
-      no_constants = no_constants s h;
+      constant_sort =
+          λ k sort e. constant_sort_at (λ n. n < length s.sorts) (slice_get s.constants k)
+          (constant_sort_declared s parts k) sort e;
+      constant_most = constants_within s h parts;
       arities = short;
       place_sort = λ n k p e l.
           let known = place_sort_declared s p (short n p e) (parts.predicates n p e) k l in
@@ -471,7 +462,6 @@ IsFit-from_faultless s h =
       remove_count =
           λ n b e. above-map 13 4 (λ b. length b.removes) s.bounds
           (limits_of-faultless s h 12 _ refl) n b e;
-      greatest = λ n b e. picks_greatest s h n b e;
       bound_predicate =
           λ n b e. slice_get_within s.predicates b.predicate _
           (bound_fits s b (bound_parts s b (parts.bounds n b e))).declared;

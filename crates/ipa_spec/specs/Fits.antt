@@ -21,7 +21,6 @@ use Rattle.ipa_spec.specs.declared.operations.Effect.{Effect}
 use Rattle.ipa_spec.specs.declared.operations.Action.{Action}
 use Rattle.ipa_spec.specs.declared.operations.Operation.{Operation}
 use Rattle.ipa_spec.specs.declared.bounds.Bound.{Bound}
-use Rattle.ipa_spec.specs.declared.bounds.Pick.TheVariants.{Greatest}
 
 -- an atom over variables of these sorts: its predicate is declared, and each place has a variable or a constant of its sort
 pub record AtomFits (s : Specification) (sorts : List ℕ) (a : Atom) : Type 0 where
@@ -56,8 +55,7 @@ pub record EffectFits (s : Specification) (sorts : List ℕ) (e : Effect) : Type
   pub unused : (k : ℕ) → predicate.arity ≤ k → k < 3 → slice_index_or e.args k Any ≡ Any
   pub exact : e.add ≡ true → (k : ℕ) → k < predicate.arity → slice_index_or e.args k Any ≡ Any → ⊥
 
--- every number in the specification names something, and every variable and constant stands in places of its sort.
--- No document can declare a constant or a bound that picks the youngest fact yet.
+-- every number in the specification names something, and every variable and constant stands in places of its sort
 pub record IsFit (s : Specification) : Type 0 where
   pub sort_count : length s.sorts ≤ 8
   pub predicate_count : length s.predicates ≤ 32
@@ -66,7 +64,6 @@ pub record IsFit (s : Specification) : Type 0 where
   pub bound_count : length s.bounds ≤ 8
   pub constant_sort : (k sort : ℕ) → sort_of_constant s k ≡ Some sort → sort < length s.sorts
   pub constant_most : (sort : ℕ) → constant_count s sort ≤ 4
-  pub no_constants : s.constants ≡ []
   pub arities : (n : ℕ) (p : Predicate) → slice_get s.predicates n ≡ Some p → p.arity ≤ 3
   pub place_sort : (n k : ℕ) (p : Predicate) → slice_get s.predicates n ≡ Some p → k < p.arity →
       slice_index p.sorts k < length s.sorts
@@ -86,7 +83,6 @@ pub record IsFit (s : Specification) : Type 0 where
   pub need_count : (n : ℕ) (o : Operation) → slice_get s.operations n ≡ Some o → length o.needs ≤ 6
   pub effect_count : (n : ℕ) (o : Operation) → slice_get s.operations n ≡ Some o → length o.effects ≤ 12
   pub remove_count : (n : ℕ) (b : Bound) → slice_get s.bounds n ≡ Some b → length b.removes ≤ 4
-  pub greatest : (n : ℕ) (b : Bound) → slice_get s.bounds n ≡ Some b → b.pick ≡ Greatest
   pub bound_predicate : (n : ℕ) (b : Bound) → slice_get s.bounds n ≡ Some b →
       b.predicate < length s.predicates
   pub counted : (n : ℕ) (b : Bound) (p : Predicate) → slice_get s.bounds n ≡ Some b →

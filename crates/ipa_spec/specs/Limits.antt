@@ -1,18 +1,17 @@
 -- Limits on the counts and numbers of a specification, and its first fault.
 --
---   youngest_count bounds  how many bounds pick the youngest fact
+--   constant_counts s how many constants each sort has, in declared order
 --   first_limit s     the least limit that is passed, with the first count that passes it
 --   fault_of s        the first fault of a specification, in the order of the kinds, limits last
 --   IsFaultless s     there is none
-use Rattle.std.specs.Prelude.{◌≡◌, ℕ, Bool, true, false, not, ◌&&◌, nat_lt, nat_le, List, [], ◌∷◌, length, map, filter, find, Option, Some, None, if◌then◌else◌}
+use Rattle.std.specs.Prelude.{◌≡◌, ℕ, Bool, true, false, not, ◌&&◌, nat_lt, nat_le, List, [], ◌∷◌, length, map, find, Option, Some, None, if◌then◌else◌}
+use Rattle.std.specs.List.{range_with_len}
 use Rattle.std.specs.Option.{option_map}
+use Rattle.ipa_spec.specs.Constants.{constant_count}
 use Rattle.ipa_spec.specs.Faults.{specification_has}
 use Rattle.ipa_spec.specs.declared.faults.FaultKind.TheVariants as kind
 use Rattle.ipa_spec.specs.declared.faults.SpecFault.{SpecFault}
 use Rattle.ipa_spec.specs.declared.faults.SpecFault.TheVariants.{Arity, SortMismatch, UnknownName, Duplicate, WildAdd, FreeVariable, Limit}
-use Rattle.ipa_spec.specs.declared.bounds.Bound.{Bound}
-use Rattle.ipa_spec.specs.declared.bounds.Pick.{Pick}
-use Rattle.ipa_spec.specs.declared.bounds.Pick.TheVariants.{Greatest, Youngest}
 use Rattle.ipa_spec.specs.declared.specification.Specification.{Specification}
 
 -- the limit of this number is passed by the first of these counts that is above the greatest allowed
@@ -26,24 +25,15 @@ size_outside sizes =
     option_map (λ found. Limit 12 found)
     (find (λ size. not (nat_le 1 size && nat_le size 65535)) sizes)
 
--- the youngest fact is picked
-abbrev pub is_youngest : Pick → Bool
-is_youngest Greatest = false
-is_youngest Youngest = true
-
 -- the first of a list that is there
 abbrev pub first_there : List (Option SpecFault) → Option SpecFault
 first_there [] = None
 first_there (None ∷ rest) = first_there rest
 first_there (Some fault ∷ rest) = Some fault
 
--- the bound picks the youngest fact
-abbrev pub picks_youngest : Bound → Bool
-picks_youngest b = is_youngest b.pick
-
--- how many bounds pick the youngest fact
-abbrev pub youngest_count : List Bound → ℕ
-youngest_count bounds = length (filter picks_youngest bounds)
+-- how many constants each sort has, in declared order
+abbrev pub constant_counts : Specification → List ℕ
+constant_counts s = map (constant_count s) (range_with_len 0 (length s.sorts))
 
 -- each limit that is passed, in the order of their numbers, with the first count that passes it
 abbrev pub limits_passed : Specification → List (Option SpecFault)
@@ -61,7 +51,7 @@ limits_passed s =
     ∷ above 11 8 (length s.bounds ∷ [])
     ∷ size_outside (map (λ b. b.most) s.bounds)
     ∷ above 13 4 (map (λ b. length b.removes) s.bounds)
-    ∷ above 19 0 (length s.constants ∷ youngest_count s.bounds ∷ [])
+    ∷ above 19 4 (constant_counts s)
     ∷ [])
 
 -- the least limit that is passed

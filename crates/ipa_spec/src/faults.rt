@@ -26,7 +26,7 @@ pub enum SpecFault {
     FreeVariable,
     /// A count or number passes the limit of number `which`, which is the least such.
     Limit {
-        /// The number of the limit, from 1 to 13.
+        /// The number of the limit, from 1 to 13, or 19.
         which: u8,
         /// The count or number that was found.
         found: u64,

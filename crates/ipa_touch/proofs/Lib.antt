@@ -7,3 +7,4 @@ pub mod TouchLemmas
 pub mod ClauseLemmas
 pub mod NextLemmas
 pub mod LeapLemmas
+pub mod ConstantLemmas

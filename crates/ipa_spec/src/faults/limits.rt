@@ -1,9 +1,10 @@
 //! The limits on counts and numbers, and the first fault.
 ghost use Rattle.std.specs.Prelude.{◌≡◌, ◌&&◌, [], ◌∷◌, not, nat_lt, nat_le, length, map, find};
 ghost use Rattle.std.specs.Option.{option_map};
-ghost use Rattle.ipa_spec.specs.Limits.{above, size_outside, picks_youngest, youngest_count, first_there, first_limit, fault_if, fault_of};
+ghost use Rattle.ipa_spec.specs.Constants.{constant_count};
+ghost use Rattle.ipa_spec.specs.Limits.{above, size_outside, constant_counts, first_there, first_limit, fault_if, fault_of};
 
-use crate::bounds::{Bound, Pick};
+use crate::bounds::Bound;
 use crate::clauses::Clause;
 use crate::faults::kinds::specification_has;
 use crate::faults::{FaultKind, SpecFault};
@@ -122,38 +123,25 @@ fn first_size_outside(bounds: &List<Bound>) -> Option<usize>
         .find(|size| !(1 <= *size && *size <= 65535))
 }
 
-// Whether the bound picks the youngest fact.
-fn picks_youngest(bound: &Bound) -> bool
-    ensures { result ≡ picks_youngest bound.now }
+// How many constants a sort has.
+fn constant_count(parts: &Specification, sort: usize) -> usize
+    ensures { result ≡ constant_count parts.now sort }
 {
-    match bound.pick {
-        Pick::Greatest => false,
-        Pick::Youngest => true,
-    }
-}
-
-// How many bounds pick the youngest fact.
-fn youngest_count(bounds: &List<Bound>) -> usize
-    ensures { result ≡ youngest_count bounds.now }
-{
-    bounds
+    parts
+        .constants
         .as_slice()
         .iter()
-        .filter(|bound| picks_youngest(bound))
+        .filter(|constant| constant.sort as usize == sort)
         .count()
 }
 
-// What no document can say yet: a constant, or a bound that picks the youngest fact.
-fn first_unread(parts: &Specification) -> Option<SpecFault>
-    ensures { result
-        ≡ above 19 0 (length parts.now.constants ∷ youngest_count parts.now.bounds ∷ []) }
+// The first number of the constants of a sort that is above 4.
+fn first_constants_above(parts: &Specification) -> Option<usize>
+    ensures { result ≡ find (λ count. nat_lt 4 count) (constant_counts parts.now) }
 {
-    let constants = parts.constants.len();
-    let youngest = youngest_count(&parts.bounds);
-    if constants > 0 {
-        return passed(19, Some(constants));
-    }
-    count_above(19, 0, youngest)
+    (0..parts.sorts.len())
+        .map(|sort| constant_count(parts, sort))
+        .find(|count| *count > 4)
 }
 
 // The first of the faults that is there.
@@ -187,7 +175,7 @@ fn first_limit(parts: &Specification) -> Option<SpecFault>
         count_above(11, 8, parts.bounds.len()),
         passed(12, first_size_outside(&parts.bounds)),
         passed(13, first_removes_above(&parts.bounds)),
-        first_unread(parts),
+        passed(19, first_constants_above(parts)),
     ])
 }
 

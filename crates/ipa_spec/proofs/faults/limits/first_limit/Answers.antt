@@ -9,5 +9,5 @@ returns c =
     (c.count_above.result ∷ c.count_above-2.result ∷ c.passed.result ∷ c.count_above-3.result ∷
     c.passed-2.result ∷ c.passed-3.result ∷ c.count_above-4.result ∷ c.passed-4.result ∷
     c.passed-5.result ∷ c.passed-6.result ∷ c.count_above-5.result ∷ c.passed-7.result ∷
-    c.passed-8.result ∷ c.first_unread.result ∷ []) ≡ limits_passed c.args.parts.now = cc in
+    c.passed-8.result ∷ c.passed-9.result ∷ []) ≡ limits_passed c.args.parts.now = cc in
     c.first_there.ensures ∙ ap first_there same
