@@ -1,7 +1,7 @@
 -- The lines of the bounds of a canonical text are not refused.
 --
 --   bounds_go   the lines go on, where those behind them do
-use Rattle.std.proofs.Common.{◌≡◌, ℕ, suc, ◌+◌, true, false, List, [], ◌∷◌, ◌++◌, length, map, Some, None, refl, sym, ap, subst, ◌∙◌}
+use Rattle.std.proofs.Common.{◌≡◌, ℕ, suc, ◌+◌, true, false, List, [], ◌∷◌, ◌++◌, length, map, Some, None, refl, sym, ap, subst, ◌∙◌, append-nil}
 use Rattle.std.specs.List.{slice_get, slice_index_or, flat_map}
 use Rattle.std.specs.Option.{option_map_or}
 use Rattle.std.proofs.lemmas.Bool.{or_from}
@@ -37,12 +37,12 @@ use Rattle.ipa_canonical.proofs.AcceptedParts.{full, effect_clean, bound_clean, 
 use Rattle.ipa_canonical.proofs.AcceptedLines.{at_part}
 use Rattle.ipa_canonical.proofs.AcceptedOperations.{last_there}
 
-module _ (s : Specification) (fit : IsFit s) (flaws : SpecificationParts s) (inside : AreInside s) (shaped : IsShaped s) (cs : List ClauseLine) (os : List OperationLines) (bs : List BoundLines) (n : ℕ) (b : Bound) (at : slice_get s.bounds n ≡ Some b) where
+module _ (s : Specification) (fit : IsFit s) (flaws : SpecificationParts s) (inside : AreInside s) (shaped : IsShaped s) (none : s.constants ≡ []) (cs : List ClauseLine) (os : List OperationLines) (bs : List BoundLines) (n : ℕ) (b : Bound) (at : slice_get s.bounds n ≡ Some b) where
   abbrev remove_said : Effect → EffectLine
-  remove_said e = remove_line s.predicates b.name (bound_vars s.predicates b) e
+  remove_said e = remove_line s b.name (bound_vars s.predicates b) e
 
   abbrev lines : List EffectLine → BoundLines
-  lines removes = record (bound_lines s.predicates b) { removes = removes }
+  lines removes = record (bound_lines s b) { removes = removes }
 
   abbrev dropping : List EffectLine → Declared
   dropping removes = full s cs os (bs ++ lines removes ∷ [])
@@ -57,10 +57,10 @@ module _ (s : Specification) (fit : IsFit s) (flaws : SpecificationParts s) (ins
   abbrev DropsGo : List Effect → List Form → Type 0
   DropsGo done later = Chain (stand false true (dropping (map remove_said done))) later
 
-  drop_step : (before later : List Effect) (x : Effect) (rest : List Form) → b.removes ≡ before ++ x ∷ later → DropsGo (before ++ x ∷ []) rest → DropsGo before (remove_form s.predicates b.name (bound_vars s.predicates b) x ∷ rest)
+  drop_step : (before later : List Effect) (x : Effect) (rest : List Form) → b.removes ≡ before ++ x ∷ later → DropsGo (before ++ x ∷ []) rest → DropsGo before (remove_form s b.name (bound_vars s.predicates b) x ∷ rest)
   unfolding specification_line_has
   drop_step before later x rest e go = (
-    no_refusal (stand false true d) (remove_form s.predicates b.name (bound_vars s.predicates b) x) refl clean limit refl,
+    no_refusal (stand false true d) (remove_form s b.name (bound_vars s.predicates b) x) refl clean limit refl,
     subst (λ all. Chain (stand false true (full s cs os all)) rest) grown go,
   )
     where
@@ -79,35 +79,35 @@ module _ (s : Specification) (fit : IsFit s) (flaws : SpecificationParts s) (ins
       last : last_of (bs ++ lines (map remove_said before) ∷ []) ≡ Some (lines (map remove_said before))
       last = last_there bs (lines (map remove_said before))
 
-      clean : (flaw : Flaw) → specification_line_has flaw d (remove_form s.predicates b.name (bound_vars s.predicates b) x) ≡ false
-      clean flaw = ap (λ scope. effect_has flaw d scope (remove_said x)) (ap (λ f. option_map_or (bound_variables d) f []) last)
-          ∙ effect_clean s fit flaws shaped cs os (bs ++ lines (map remove_said before) ∷ []) (typed_by_places (bound_vars s.predicates b) (places_of d (predicate_name s.predicates b.name b.predicate))) (bound_vars s.predicates b) (place_sorts s.predicates b.predicate) b.name
-          (knows_bound s fit flaws shaped cs os (bs ++ lines (map remove_said before) ∷ []) n b at) flaw false x (λ h. cc) fits (shaped.removes n k b x at here)
+      clean : (flaw : Flaw) → specification_line_has flaw d (remove_form s b.name (bound_vars s.predicates b) x) ≡ false
+      clean flaw = ap (λ scope. effect_has flaw d scope (remove_said x)) (append-nil (option_map_or (bound_variables d) (last_of (bs ++ lines (map remove_said before) ∷ [])) []) ∙ ap (λ f. option_map_or (bound_variables d) f []) last)
+          ∙ effect_clean s fit flaws shaped none cs os (bs ++ lines (map remove_said before) ∷ []) (typed_by_places (bound_vars s.predicates b) (places_of d (predicate_name s b.name b.predicate))) (bound_vars s.predicates b) (place_sorts s.predicates b.predicate) b.name
+          (knows_bound s fit flaws shaped none cs os (bs ++ lines (map remove_said before) ∷ []) n b at) flaw false x (λ h. cc) fits (shaped.removes n k b x at here)
 
       counted : option_map_or (λ y. count_above 13 4 (length y.removes + 1)) (last_of (bs ++ lines (map remove_said before) ∷ [])) None ≡ None
       counted = ap (λ f. option_map_or (λ y. count_above 13 4 (length y.removes + 1)) f None) last
           ∙ count_inside 13 4 (length (map remove_said before) + 1) (count_before remove_said before later x b.removes 4 e (inside.removes n b at))
 
-      limit : limit_passed d (remove_form s.predicates b.name (bound_vars s.predicates b) x) ≡ None
+      limit : limit_passed d (remove_form s b.name (bound_vars s.predicates b) x) ≡ None
       limit = one_limit (option_map_or (λ y. count_above 13 4 (length y.removes + 1)) (last_of (bs ++ lines (map remove_said before) ∷ [])) None) counted
 
       grown : bs ++ lines (map remove_said (before ++ x ∷ [])) ∷ [] ≡ with_last (with_remove (remove_said x)) (bs ++ lines (map remove_said before) ∷ [])
       grown = ap (λ all. bs ++ lines all ∷ []) (map-append remove_said before (x ∷ [])) ∙ sym (with_last_is (with_remove (remove_said x)) (bs ++ lines (map remove_said before) ∷ []) bs (lines (map remove_said before)) refl)
 
   -- the lines behind that of the bound itself
-  drops_go : (rest : List Form) → Chain (stand false true (full s cs os (bs ++ bound_lines s.predicates b ∷ []))) rest → Chain (stand false true (dropping [])) (map (remove_form s.predicates b.name (bound_vars s.predicates b)) b.removes ++ rest)
-  drops_go rest go = each_line DropsGo b.removes (remove_form s.predicates b.name (bound_vars s.predicates b)) drop_step [] b.removes refl rest go
+  drops_go : (rest : List Form) → Chain (stand false true (full s cs os (bs ++ bound_lines s b ∷ []))) rest → Chain (stand false true (dropping [])) (map (remove_form s b.name (bound_vars s.predicates b)) b.removes ++ rest)
+  drops_go rest go = each_line DropsGo b.removes (remove_form s b.name (bound_vars s.predicates b)) drop_step [] b.removes refl rest go
 
-module _ (s : Specification) (fit : IsFit s) (flaws : SpecificationParts s) (inside : AreInside s) (shaped : IsShaped s) (cs : List ClauseLine) (os : List OperationLines) where
+module _ (s : Specification) (fit : IsFit s) (flaws : SpecificationParts s) (inside : AreInside s) (shaped : IsShaped s) (none : s.constants ≡ []) (cs : List ClauseLine) (os : List OperationLines) where
   abbrev with_bounds : List Bound → Declared
-  with_bounds bs = full s cs os (map (bound_lines s.predicates) bs)
+  with_bounds bs = full s cs os (map (bound_lines s) bs)
 
-  bound_step : (before later : List Bound) (b : Bound) (rest : List Form) → s.bounds ≡ before ++ b ∷ later → Onward (with_bounds (before ++ b ∷ [])) rest → Onward (with_bounds before) (bound_forms s.predicates b ++ rest)
+  bound_step : (before later : List Bound) (b : Bound) (rest : List Form) → s.bounds ≡ before ++ b ∷ later → Onward (with_bounds (before ++ b ∷ [])) rest → Onward (with_bounds before) (bound_forms s b ++ rest)
   unfolding specification_line_has
   bound_step before later b rest e go = λ operation bound. (
-    no_refusal (stand operation bound (with_bounds before)) (bound_form s.predicates b) refl clean limit refl,
-    drops_go s fit flaws inside shaped cs os (map (bound_lines s.predicates) before) n b at rest
-        (subst (λ bs. Chain (stand false true (full s cs os bs)) rest) (map-append (bound_lines s.predicates) before (b ∷ [])) (go false true)),
+    no_refusal (stand operation bound (with_bounds before)) (bound_form s b) refl clean limit refl,
+    drops_go s fit flaws inside shaped none cs os (map (bound_lines s) before) n b at rest
+        (subst (λ bs. Chain (stand false true (full s cs os bs)) rest) (map-append (bound_lines s) before (b ∷ [])) (go false true)),
   )
     where
       n : ℕ
@@ -116,15 +116,15 @@ module _ (s : Specification) (fit : IsFit s) (flaws : SpecificationParts s) (ins
       at : slice_get s.bounds n ≡ Some b
       at = at_part s.bounds before later b e
 
-      clean : (flaw : Flaw) → specification_line_has flaw (with_bounds before) (bound_form s.predicates b) ≡ false
-      clean flaw = or_from (declaration_has flaw (map (λ x. x.name) (map (bound_lines s.predicates) before)) b.name) (bound_has flaw (with_bounds before) (predicate_name s.predicates b.name b.predicate) (bound_vars s.predicates b) (slice_index_or b.vars b.counted b.name))
-          (name_new flaw (λ x. x.name) (bound_lines s.predicates) s.bounds before later b e flaws.bound_names)
-          (bound_clean s fit flaws shaped cs os (map (bound_lines s.predicates) before) flaw n b at)
+      clean : (flaw : Flaw) → specification_line_has flaw (with_bounds before) (bound_form s b) ≡ false
+      clean flaw = or_from (declaration_has flaw (map (λ x. x.name) (map (bound_lines s) before)) b.name) (bound_has flaw (with_bounds before) (predicate_name s b.name b.predicate) (bound_vars s.predicates b) (slice_index_or b.vars b.counted b.name))
+          (name_new flaw (λ x. x.name) (bound_lines s) s.bounds before later b e flaws.bound_names)
+          (bound_clean s fit flaws shaped none cs os (map (bound_lines s) before) flaw n b at)
 
-      limit : limit_passed (with_bounds before) (bound_form s.predicates b) ≡ None
-      limit = two_limits (count_above 11 8 (length (map (bound_lines s.predicates) before) + 1)) (size_outside (b.most ∷ []))
-          (count_inside 11 8 (length (map (bound_lines s.predicates) before) + 1) (count_before (bound_lines s.predicates) before later b s.bounds 8 e fit.bound_count))
+      limit : limit_passed (with_bounds before) (bound_form s b) ≡ None
+      limit = two_limits (count_above 11 8 (length (map (bound_lines s) before) + 1)) (size_outside (b.most ∷ []))
+          (count_inside 11 8 (length (map (bound_lines s) before) + 1) (count_before (bound_lines s) before later b s.bounds 8 e fit.bound_count))
           (size_inside b.most (inside.sizes n b at))
 
-  pub bounds_go : (rest : List Form) → Onward (full s cs os (map (bound_lines s.predicates) s.bounds)) rest → Onward (full s cs os []) (flat_map (bound_forms s.predicates) s.bounds ++ rest)
-  bounds_go rest go = each_chunk (λ bs later. Onward (with_bounds bs) later) s.bounds (bound_forms s.predicates) bound_step [] s.bounds refl rest go
+  pub bounds_go : (rest : List Form) → Onward (full s cs os (map (bound_lines s) s.bounds)) rest → Onward (full s cs os []) (flat_map (bound_forms s) s.bounds ++ rest)
+  bounds_go rest go = each_chunk (λ bs later. Onward (with_bounds bs) later) s.bounds (bound_forms s) bound_step [] s.bounds refl rest go

@@ -1,7 +1,7 @@
 -- The lines of the sorts, predicates and clauses of a canonical text are not refused.
 --
 --   sorts_go, predicates_go, clauses_go   the lines go on, where those behind them do
-use Rattle.std.proofs.Common.{◌≡◌, ℕ, ◌+◌, ◌<◌, false, ◌||◌, List, [], ◌∷◌, ◌++◌, length, map, take, slice_index, Some, None, refl, ap, subst, ◌∙◌, arith}
+use Rattle.std.proofs.Common.{◌≡◌, ℕ, ◌+◌, ◌<◌, false, ◌||◌, List, [], ◌∷◌, ◌++◌, length, map, take, slice_index, Some, None, refl, ap, subst, ◌∙◌, append-nil, arith}
 use Rattle.std.specs.List.{slice_get, slice_index_or, list_any}
 use Rattle.std.proofs.lemmas.Bool.{or_from, or_parts}
 use Rattle.std.proofs.lemmas.List.{length-append, length-map, length-take-le, map-append}
@@ -20,6 +20,7 @@ use Rattle.ipa_forms.specs.declared.forms.Form.{Form}
 use Rattle.ipa_forms.specs.declared.forms.Form.TheVariants as line
 use Rattle.ipa_canonical.specs.Canonical.{names_at, typed_form, literal_form, names_of, pred_form, clause_form}
 use Rattle.ipa_names.specs.Declarations.{nothing_declared}
+use Rattle.ipa_names.specs.Scopes.{with_constants}
 use Rattle.ipa_names.specs.Flaws.{declaration_has, sort_has, variables_have, literal_has, specification_line_has}
 use Rattle.ipa_names.specs.Counts.{count_above, limit_passed}
 use Rattle.ipa_canonical.specs.Named.{predicate_line, clause_line}
@@ -38,7 +39,7 @@ use Rattle.ipa_canonical.proofs.AcceptedParts.{full, literal_clean}
 pub at_part : {X : Type 0} (all before later : List X) (x : X) → all ≡ before ++ x ∷ later → slice_get all (length before) ≡ Some x
 at_part all before later x e = ap (λ xs. slice_get xs (length before)) e ∙ at_seam before later x
 
-module _ (s : Specification) (fit : IsFit s) (flaws : SpecificationParts s) (shaped : IsShaped s) where
+module _ (s : Specification) (fit : IsFit s) (flaws : SpecificationParts s) (shaped : IsShaped s) (none : s.constants ≡ []) where
   abbrev with_sorts : List Name → Declared
   with_sorts names = record nothing_declared { sorts = names }
 
@@ -91,13 +92,13 @@ module _ (s : Specification) (fit : IsFit s) (flaws : SpecificationParts s) (sha
   predicates_go rest go = each_line (λ ps lines. Onward (with_predicates ps) lines) s.predicates (pred_form s.sorts) predicate_step [] s.predicates refl rest go
 
   abbrev with_clauses : List Clause → Declared
-  with_clauses cs = full s (map (clause_line s.sorts s.predicates) cs) [] []
+  with_clauses cs = full s (map (clause_line s) cs) [] []
 
-  clause_step : (before later : List Clause) (c : Clause) (rest : List Form) → s.clauses ≡ before ++ c ∷ later → Onward (with_clauses (before ++ c ∷ [])) rest → Onward (with_clauses before) (clause_form s.sorts s.predicates c ∷ rest)
+  clause_step : (before later : List Clause) (c : Clause) (rest : List Form) → s.clauses ≡ before ++ c ∷ later → Onward (with_clauses (before ++ c ∷ [])) rest → Onward (with_clauses before) (clause_form s c ∷ rest)
   unfolding specification_line_has
   clause_step before later c rest e go = λ operation bound. (
-    no_refusal (stand operation bound (with_clauses before)) (clause_form s.sorts s.predicates c) refl clean limit refl,
-    subst (λ cs. Chain (stand false false (full s cs [] [])) rest) (map-append (clause_line s.sorts s.predicates) before (c ∷ [])) (go false false),
+    no_refusal (stand operation bound (with_clauses before)) (clause_form s c) refl clean limit refl,
+    subst (λ cs. Chain (stand false false (full s cs [] [])) rest) (map-append (clause_line s) before (c ∷ [])) (go false false),
   )
     where
       n : ℕ
@@ -112,24 +113,25 @@ module _ (s : Specification) (fit : IsFit s) (flaws : SpecificationParts s) (sha
       vars_clean : (flaw : Flaw) → variables_have flaw (with_clauses before) (map (typed_form s.sorts) c.vars) ≡ false
       vars_clean flaw = variables_clean flaw (with_clauses before) c.vars (λ k v is. fit.variable_sort n k v.sort c at (slice_get-mapped (λ x. x.sort) c.vars k v is)) (has kind.Duplicate).0
 
-      literals_clean : (flaw : Flaw) → list_any (literal_has flaw (with_clauses before) (map (typed_form s.sorts) c.vars)) (map (literal_form s.predicates c.name (names_of c.vars)) c.literals) ≡ false
-      literals_clean flaw = any-map (literal_has flaw (with_clauses before) (map (typed_form s.sorts) c.vars)) (literal_form s.predicates c.name (names_of c.vars)) c.literals
-          ∙ none_of (λ l. literal_has flaw (with_clauses before) (map (typed_form s.sorts) c.vars) (literal_form s.predicates c.name (names_of c.vars) l)) c.literals (λ k l is.
-          literal_clean s fit flaws shaped (map (clause_line s.sorts s.predicates) before) [] [] (map (typed_form s.sorts) c.vars) (names_of c.vars) (sorts_of_vars c.vars) c.name
+      literals_clean : (flaw : Flaw) → list_any (literal_has flaw (with_clauses before) (with_constants (with_clauses before) (map (typed_form s.sorts) c.vars))) (map (literal_form s c.name (names_of c.vars)) c.literals) ≡ false
+      literals_clean flaw = ap (λ scope. list_any (literal_has flaw (with_clauses before) scope) (map (literal_form s c.name (names_of c.vars)) c.literals)) (append-nil (map (typed_form s.sorts) c.vars))
+          ∙ any-map (literal_has flaw (with_clauses before) (map (typed_form s.sorts) c.vars)) (literal_form s c.name (names_of c.vars)) c.literals
+          ∙ none_of (λ l. literal_has flaw (with_clauses before) (map (typed_form s.sorts) c.vars) (literal_form s c.name (names_of c.vars) l)) c.literals (λ k l is.
+          literal_clean s fit flaws shaped none (map (clause_line s) before) [] [] (map (typed_form s.sorts) c.vars) (names_of c.vars) (sorts_of_vars c.vars) c.name
           (knows_vars s.sorts c.vars (λ j sort there. fit.variable_sort n j sort c at there) (has kind.Duplicate).0) flaw l (fit.literals n k c l at is) (shaped.literals n k c l at is))
 
-      clean : (flaw : Flaw) → specification_line_has flaw (with_clauses before) (clause_form s.sorts s.predicates c) ≡ false
-      clean flaw = or_from (declaration_has flaw (map (λ x. x.name) (map (clause_line s.sorts s.predicates) before)) c.name || variables_have flaw (with_clauses before) (map (typed_form s.sorts) c.vars))
-          (list_any (literal_has flaw (with_clauses before) (map (typed_form s.sorts) c.vars)) (map (literal_form s.predicates c.name (names_of c.vars)) c.literals))
-          (or_from (declaration_has flaw (map (λ x. x.name) (map (clause_line s.sorts s.predicates) before)) c.name) (variables_have flaw (with_clauses before) (map (typed_form s.sorts) c.vars))
-          (name_new flaw (λ x. x.name) (clause_line s.sorts s.predicates) s.clauses before later c e flaws.clause_names) (vars_clean flaw))
+      clean : (flaw : Flaw) → specification_line_has flaw (with_clauses before) (clause_form s c) ≡ false
+      clean flaw = or_from (declaration_has flaw (map (λ x. x.name) (map (clause_line s) before)) c.name || variables_have flaw (with_clauses before) (map (typed_form s.sorts) c.vars))
+          (list_any (literal_has flaw (with_clauses before) (with_constants (with_clauses before) (map (typed_form s.sorts) c.vars))) (map (literal_form s c.name (names_of c.vars)) c.literals))
+          (or_from (declaration_has flaw (map (λ x. x.name) (map (clause_line s) before)) c.name) (variables_have flaw (with_clauses before) (map (typed_form s.sorts) c.vars))
+          (name_new flaw (λ x. x.name) (clause_line s) s.clauses before later c e flaws.clause_names) (vars_clean flaw))
           (literals_clean flaw)
 
-      limit : limit_passed (with_clauses before) (clause_form s.sorts s.predicates c) ≡ None
-      limit = three_limits (count_above 4 32 (length (map (clause_line s.sorts s.predicates) before) + 1)) (count_above 5 6 (length (map (literal_form s.predicates c.name (names_of c.vars)) c.literals))) (count_above 6 4 (length (map (typed_form s.sorts) c.vars)))
-          (count_inside 4 32 (length (map (clause_line s.sorts s.predicates) before) + 1) (count_before (clause_line s.sorts s.predicates) before later c s.clauses 32 e fit.clause_count))
-          (count_inside 5 6 (length (map (literal_form s.predicates c.name (names_of c.vars)) c.literals)) (omega (arith, length-map c.literals (literal_form s.predicates c.name (names_of c.vars)), fit.literal_count n c at)))
+      limit : limit_passed (with_clauses before) (clause_form s c) ≡ None
+      limit = three_limits (count_above 4 32 (length (map (clause_line s) before) + 1)) (count_above 5 6 (length (map (literal_form s c.name (names_of c.vars)) c.literals))) (count_above 6 4 (length (map (typed_form s.sorts) c.vars)))
+          (count_inside 4 32 (length (map (clause_line s) before) + 1) (count_before (clause_line s) before later c s.clauses 32 e fit.clause_count))
+          (count_inside 5 6 (length (map (literal_form s c.name (names_of c.vars)) c.literals)) (omega (arith, length-map c.literals (literal_form s c.name (names_of c.vars)), fit.literal_count n c at)))
           (count_inside 6 4 (length (map (typed_form s.sorts) c.vars)) (omega (arith, length-map c.vars (typed_form s.sorts), fit.variable_count n c at)))
 
-  pub clauses_go : (rest : List Form) → Onward (full s (map (clause_line s.sorts s.predicates) s.clauses) [] []) rest → Onward (full s [] [] []) (map (clause_form s.sorts s.predicates) s.clauses ++ rest)
-  clauses_go rest go = each_line (λ cs lines. Onward (with_clauses cs) lines) s.clauses (clause_form s.sorts s.predicates) clause_step [] s.clauses refl rest go
+  pub clauses_go : (rest : List Form) → Onward (full s (map (clause_line s) s.clauses) [] []) rest → Onward (full s [] [] []) (map (clause_form s) s.clauses ++ rest)
+  clauses_go rest go = each_line (λ cs lines. Onward (with_clauses cs) lines) s.clauses (clause_form s) clause_step [] s.clauses refl rest go

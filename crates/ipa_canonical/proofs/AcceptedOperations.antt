@@ -2,7 +2,7 @@
 --
 --   last_there      the item that stands last
 --   operations_go   the lines go on, where those behind them do
-use Rattle.std.proofs.Common.{◌≡◌, ℕ, ◌+◌, ◌-◌, ◌<◌, Bool, true, false, cond, ◌||◌, List, [], ◌∷◌, ◌++◌, length, map, Option, Some, None, refl, sym, ap, subst, ◌∙◌, append_assoc, arith}
+use Rattle.std.proofs.Common.{◌≡◌, ℕ, ◌+◌, ◌-◌, ◌<◌, Bool, true, false, cond, ◌||◌, List, [], ◌∷◌, ◌++◌, length, map, Option, Some, None, refl, sym, ap, subst, ◌∙◌, append_assoc, append-nil, arith}
 use Rattle.std.specs.List.{slice_get, list_any, flat_map}
 use Rattle.std.specs.Option.{option_map_or}
 use Rattle.std.proofs.lemmas.Bool.{or_from, or_parts}
@@ -22,7 +22,7 @@ use Rattle.ipa_forms.specs.declared.forms.Form.{Form}
 use Rattle.ipa_forms.specs.declared.forms.Form.TheVariants as line
 use Rattle.ipa_canonical.specs.Canonical.{predicate_name, typed_form, literal_form, names_of, args_form, need_form, effect_form, operation_forms}
 use Rattle.ipa_names.specs.Naming.{last_of, with_last}
-use Rattle.ipa_names.specs.Scopes.{operation_scope}
+use Rattle.ipa_names.specs.Scopes.{operation_scope, with_constants}
 use Rattle.ipa_names.specs.Declarations.{with_need, with_effect}
 use Rattle.ipa_reader.specs.Standings.{next_standing}
 use Rattle.ipa_names.specs.Flaws.{declaration_has, variables_have, literal_has, effect_has, specification_line_has}
@@ -49,7 +49,7 @@ last_there xs x =
     subst (λ k. slice_get (xs ++ x ∷ []) k ≡ Some x) (sym count) (at_part (xs ++ x ∷ []) xs [] x refl)
 
 -- an `add` or a `del` line, by whether it adds
-either_unrefused : (d : Declared) (predicate : Name) (args : List (Option Name)) (b : Bool) → ((flaw : Flaw) → effect_has flaw d (operation_scope d) (record { add = b; predicate = predicate; args = args }) ≡ false) → effects_above d ≡ None → IsUnrefused (stand true false d) (cond b (line.Add predicate args) (line.Del predicate args))
+either_unrefused : (d : Declared) (predicate : Name) (args : List (Option Name)) (b : Bool) → ((flaw : Flaw) → effect_has flaw d (with_constants d (operation_scope d)) (record { add = b; predicate = predicate; args = args }) ≡ false) → effects_above d ≡ None → IsUnrefused (stand true false d) (cond b (line.Add predicate args) (line.Del predicate args))
 unfolding specification_line_has
 either_unrefused d predicate args true clean limit = no_refusal (stand true false d) (line.Add predicate args) refl clean (one_limit (effects_above d) limit) refl
 either_unrefused d predicate args false clean limit = no_refusal (stand true false d) (line.Del predicate args) refl clean (one_limit (effects_above d) limit) refl
@@ -58,12 +58,12 @@ either_next : (d : Declared) (predicate : Name) (args : List (Option Name)) (b :
 either_next d predicate args true = refl
 either_next d predicate args false = refl
 
-module _ (s : Specification) (fit : IsFit s) (flaws : SpecificationParts s) (inside : AreInside s) (shaped : IsShaped s) (cs : List ClauseLine) (os : List OperationLines) (n : ℕ) (o : Operation) (at : slice_get s.operations n ≡ Some o) where
+module _ (s : Specification) (fit : IsFit s) (flaws : SpecificationParts s) (inside : AreInside s) (shaped : IsShaped s) (none : s.constants ≡ []) (cs : List ClauseLine) (os : List OperationLines) (n : ℕ) (o : Operation) (at : slice_get s.operations n ≡ Some o) where
   abbrev need_said : Literal → LiteralForm
-  need_said l = literal_form s.predicates o.name (names_of o.params) l
+  need_said l = literal_form s o.name (names_of o.params) l
 
   abbrev effect_said : Effect → EffectLine
-  effect_said e = effect_line s.predicates o.name (names_of o.params) e
+  effect_said e = effect_line s o.name (names_of o.params) e
 
   abbrev lines : List LiteralForm → List EffectLine → OperationLines
   lines needs effects = record { name = o.name; params = map (typed_form s.sorts) o.params; needs = needs; effects = effects }
@@ -85,13 +85,13 @@ module _ (s : Specification) (fit : IsFit s) (flaws : SpecificationParts s) (ins
   knows : Knows s.sorts (map (typed_form s.sorts) o.params) (names_of o.params) (sorts_of_vars o.params)
   knows = knows_vars s.sorts o.params param_sort has_params
 
-  scope_is : (needs : List LiteralForm) (effects : List EffectLine) → operation_scope (doing needs effects) ≡ map (typed_form s.sorts) o.params
-  scope_is needs effects = ap (λ f. option_map_or (λ x. x.params) f []) (last_there os (lines needs effects))
+  scope_is : (needs : List LiteralForm) (effects : List EffectLine) → with_constants (doing needs effects) (operation_scope (doing needs effects)) ≡ map (typed_form s.sorts) o.params
+  scope_is needs effects = append-nil (operation_scope (doing needs effects)) ∙ ap (λ f. option_map_or (λ x. x.params) f []) (last_there os (lines needs effects))
 
   abbrev NeedsGo : List Literal → List Form → Type 0
   NeedsGo done later = Chain (stand true false (doing (map need_said done) [])) later
 
-  need_step : (before later : List Literal) (l : Literal) (rest : List Form) → o.needs ≡ before ++ l ∷ later → NeedsGo (before ++ l ∷ []) rest → NeedsGo before (need_form s.predicates o.name (names_of o.params) l ∷ rest)
+  need_step : (before later : List Literal) (l : Literal) (rest : List Form) → o.needs ≡ before ++ l ∷ later → NeedsGo (before ++ l ∷ []) rest → NeedsGo before (need_form s o.name (names_of o.params) l ∷ rest)
   unfolding specification_line_has
   need_step before later l rest e go = (
     no_refusal (stand true false (doing (map need_said before) [])) (line.Need (need_said l)) refl clean limit refl,
@@ -112,7 +112,7 @@ module _ (s : Specification) (fit : IsFit s) (flaws : SpecificationParts s) (ins
 
       clean : (flaw : Flaw) → specification_line_has flaw (doing (map need_said before) []) (line.Need (need_said l)) ≡ false
       clean flaw = ap (λ scope. literal_has flaw (doing (map need_said before) []) scope (need_said l)) (scope_is (map need_said before) [])
-          ∙ literal_clean s fit flaws shaped cs (os ++ lines (map need_said before) [] ∷ []) [] (map (typed_form s.sorts) o.params) (names_of o.params) (sorts_of_vars o.params) o.name knows flaw l fits (shaped.needs n k o l at here)
+          ∙ literal_clean s fit flaws shaped none cs (os ++ lines (map need_said before) [] ∷ []) [] (map (typed_form s.sorts) o.params) (names_of o.params) (sorts_of_vars o.params) o.name knows flaw l fits (shaped.needs n k o l at here)
 
       counted : option_map_or (λ x. count_above 10 6 (length x.needs + 1)) (last_of (os ++ lines (map need_said before) [] ∷ [])) None ≡ None
       counted = ap (λ f. option_map_or (λ x. count_above 10 6 (length x.needs + 1)) f None) (last_there os (lines (map need_said before) []))
@@ -127,10 +127,10 @@ module _ (s : Specification) (fit : IsFit s) (flaws : SpecificationParts s) (ins
   abbrev EffectsGo : List Effect → List Form → Type 0
   EffectsGo done later = Chain (stand true false (doing (map need_said o.needs) (map effect_said done))) later
 
-  effect_step : (before later : List Effect) (x : Effect) (rest : List Form) → o.effects ≡ before ++ x ∷ later → EffectsGo (before ++ x ∷ []) rest → EffectsGo before (effect_form s.predicates o.name (names_of o.params) x ∷ rest)
+  effect_step : (before later : List Effect) (x : Effect) (rest : List Form) → o.effects ≡ before ++ x ∷ later → EffectsGo (before ++ x ∷ []) rest → EffectsGo before (effect_form s o.name (names_of o.params) x ∷ rest)
   effect_step before later x rest e go = (
-    either_unrefused (doing needs (map effect_said before)) (predicate_name s.predicates o.name x.predicate) (args_form s.predicates o.name (names_of o.params) x) x.add clean counted,
-    subst (λ st. Chain st rest) (ap (λ all. stand true false (full s cs all [])) grown ∙ sym (either_next (doing needs (map effect_said before)) (predicate_name s.predicates o.name x.predicate) (args_form s.predicates o.name (names_of o.params) x) x.add)) go,
+    either_unrefused (doing needs (map effect_said before)) (predicate_name s o.name x.predicate) (args_form s o.name (names_of o.params) x) x.add clean counted,
+    subst (λ st. Chain st rest) (ap (λ all. stand true false (full s cs all [])) grown ∙ sym (either_next (doing needs (map effect_said before)) (predicate_name s o.name x.predicate) (args_form s o.name (names_of o.params) x) x.add)) go,
   )
     where
       needs : List LiteralForm
@@ -148,9 +148,9 @@ module _ (s : Specification) (fit : IsFit s) (flaws : SpecificationParts s) (ins
       fits : EffectFits s (sorts_of_vars o.params) x
       fits = subst (λ all. EffectFits s all x) sorts (fit.effects (action.Op n) k x (ap (λ all. slice_get all k) effects_are ∙ here))
 
-      clean : (flaw : Flaw) → effect_has flaw (doing needs (map effect_said before)) (operation_scope (doing needs (map effect_said before))) (effect_said x) ≡ false
+      clean : (flaw : Flaw) → effect_has flaw (doing needs (map effect_said before)) (with_constants (doing needs (map effect_said before)) (operation_scope (doing needs (map effect_said before)))) (effect_said x) ≡ false
       clean flaw = ap (λ scope. effect_has flaw (doing needs (map effect_said before)) scope (effect_said x)) (scope_is needs (map effect_said before))
-          ∙ effect_clean s fit flaws shaped cs (os ++ lines needs (map effect_said before) ∷ []) [] (map (typed_form s.sorts) o.params) (names_of o.params) (sorts_of_vars o.params) o.name knows flaw x.add x (λ h. h) fits (shaped.effects n k o x at here)
+          ∙ effect_clean s fit flaws shaped none cs (os ++ lines needs (map effect_said before) ∷ []) [] (map (typed_form s.sorts) o.params) (names_of o.params) (sorts_of_vars o.params) o.name knows flaw x.add x (λ h. h) fits (shaped.effects n k o x at here)
 
       counted : effects_above (doing needs (map effect_said before)) ≡ None
       counted = ap (λ f. option_map_or (λ y. count_above 9 12 (length y.effects + 1)) f None) (last_there os (lines needs (map effect_said before)))
@@ -160,25 +160,25 @@ module _ (s : Specification) (fit : IsFit s) (flaws : SpecificationParts s) (ins
       grown = ap (λ all. os ++ lines needs all ∷ []) (map-append effect_said before (x ∷ [])) ∙ sym (with_last_is (with_effect (effect_said x)) (os ++ lines needs (map effect_said before) ∷ []) os (lines needs (map effect_said before)) refl)
 
   -- the lines behind that of the operation itself
-  parts_go : (rest : List Form) → Chain (stand true false (full s cs (os ++ operation_lines s.sorts s.predicates o ∷ []) [])) rest →
-      Chain (stand true false (doing [] [])) ((map (need_form s.predicates o.name (names_of o.params)) o.needs ++ map (effect_form s.predicates o.name (names_of o.params)) o.effects) ++ rest)
+  parts_go : (rest : List Form) → Chain (stand true false (full s cs (os ++ operation_lines s o ∷ []) [])) rest →
+      Chain (stand true false (doing [] [])) ((map (need_form s o.name (names_of o.params)) o.needs ++ map (effect_form s o.name (names_of o.params)) o.effects) ++ rest)
   parts_go rest go =
-      let needs = map (need_form s.predicates o.name (names_of o.params)) o.needs in
-      let effects = map (effect_form s.predicates o.name (names_of o.params)) o.effects in
-      let behind : EffectsGo [] (effects ++ rest) = each_line EffectsGo o.effects (effect_form s.predicates o.name (names_of o.params)) effect_step [] o.effects refl rest go in
-      let all : NeedsGo [] (needs ++ (effects ++ rest)) = each_line NeedsGo o.needs (need_form s.predicates o.name (names_of o.params)) need_step [] o.needs refl (effects ++ rest) behind in
+      let needs = map (need_form s o.name (names_of o.params)) o.needs in
+      let effects = map (effect_form s o.name (names_of o.params)) o.effects in
+      let behind : EffectsGo [] (effects ++ rest) = each_line EffectsGo o.effects (effect_form s o.name (names_of o.params)) effect_step [] o.effects refl rest go in
+      let all : NeedsGo [] (needs ++ (effects ++ rest)) = each_line NeedsGo o.needs (need_form s o.name (names_of o.params)) need_step [] o.needs refl (effects ++ rest) behind in
       subst (λ later. Chain (stand true false (doing [] [])) later) (sym (append_assoc needs effects rest)) all
 
-module _ (s : Specification) (fit : IsFit s) (flaws : SpecificationParts s) (inside : AreInside s) (shaped : IsShaped s) (cs : List ClauseLine) where
+module _ (s : Specification) (fit : IsFit s) (flaws : SpecificationParts s) (inside : AreInside s) (shaped : IsShaped s) (none : s.constants ≡ []) (cs : List ClauseLine) where
   abbrev with_operations : List Operation → Declared
-  with_operations os = full s cs (map (operation_lines s.sorts s.predicates) os) []
+  with_operations os = full s cs (map (operation_lines s) os) []
 
-  operation_step : (before later : List Operation) (o : Operation) (rest : List Form) → s.operations ≡ before ++ o ∷ later → Onward (with_operations (before ++ o ∷ [])) rest → Onward (with_operations before) (operation_forms s.sorts s.predicates o ++ rest)
+  operation_step : (before later : List Operation) (o : Operation) (rest : List Form) → s.operations ≡ before ++ o ∷ later → Onward (with_operations (before ++ o ∷ [])) rest → Onward (with_operations before) (operation_forms s o ++ rest)
   unfolding specification_line_has
   operation_step before later o rest e go = λ operation bound. (
     no_refusal (stand operation bound (with_operations before)) (line.Op o.name (map (typed_form s.sorts) o.params)) refl clean limit refl,
-    parts_go s fit flaws inside shaped cs (map (operation_lines s.sorts s.predicates) before) n o at rest
-        (subst (λ os. Chain (stand true false (full s cs os [])) rest) (map-append (operation_lines s.sorts s.predicates) before (o ∷ [])) (go true false)),
+    parts_go s fit flaws inside shaped none cs (map (operation_lines s) before) n o at rest
+        (subst (λ os. Chain (stand true false (full s cs os [])) rest) (map-append (operation_lines s) before (o ∷ [])) (go true false)),
   )
     where
       n : ℕ
@@ -189,17 +189,17 @@ module _ (s : Specification) (fit : IsFit s) (flaws : SpecificationParts s) (ins
 
       vars_clean : (flaw : Flaw) → variables_have flaw (with_operations before) (map (typed_form s.sorts) o.params) ≡ false
       vars_clean flaw = variables_clean flaw (with_operations before) o.params
-          (λ k v is. param_sort s fit flaws inside shaped cs (map (operation_lines s.sorts s.predicates) before) n o at k v.sort (slice_get-mapped (λ x. x.sort) o.params k v is))
-          (has_params s fit flaws inside shaped cs (map (operation_lines s.sorts s.predicates) before) n o at)
+          (λ k v is. param_sort s fit flaws inside shaped none cs (map (operation_lines s) before) n o at k v.sort (slice_get-mapped (λ x. x.sort) o.params k v is))
+          (has_params s fit flaws inside shaped none cs (map (operation_lines s) before) n o at)
 
       clean : (flaw : Flaw) → specification_line_has flaw (with_operations before) (line.Op o.name (map (typed_form s.sorts) o.params)) ≡ false
-      clean flaw = or_from (declaration_has flaw (map (λ x. x.name) (map (operation_lines s.sorts s.predicates) before)) o.name) (variables_have flaw (with_operations before) (map (typed_form s.sorts) o.params))
-          (name_new flaw (λ x. x.name) (operation_lines s.sorts s.predicates) s.operations before later o e flaws.operation_names) (vars_clean flaw)
+      clean flaw = or_from (declaration_has flaw (map (λ x. x.name) (map (operation_lines s) before)) o.name) (variables_have flaw (with_operations before) (map (typed_form s.sorts) o.params))
+          (name_new flaw (λ x. x.name) (operation_lines s) s.operations before later o e flaws.operation_names) (vars_clean flaw)
 
       limit : limit_passed (with_operations before) (line.Op o.name (map (typed_form s.sorts) o.params)) ≡ None
-      limit = two_limits (count_above 7 32 (length (map (operation_lines s.sorts s.predicates) before) + 1)) (count_above 8 4 (length (map (typed_form s.sorts) o.params)))
-          (count_inside 7 32 (length (map (operation_lines s.sorts s.predicates) before) + 1) (count_before (operation_lines s.sorts s.predicates) before later o s.operations 32 e fit.operation_count))
+      limit = two_limits (count_above 7 32 (length (map (operation_lines s) before) + 1)) (count_above 8 4 (length (map (typed_form s.sorts) o.params)))
+          (count_inside 7 32 (length (map (operation_lines s) before) + 1) (count_before (operation_lines s) before later o s.operations 32 e fit.operation_count))
           (count_inside 8 4 (length (map (typed_form s.sorts) o.params)) (omega (arith, length-map o.params (typed_form s.sorts), inside.params n o at)))
 
-  pub operations_go : (rest : List Form) → Onward (full s cs (map (operation_lines s.sorts s.predicates) s.operations) []) rest → Onward (full s cs [] []) (flat_map (operation_forms s.sorts s.predicates) s.operations ++ rest)
-  operations_go rest go = each_chunk (λ os later. Onward (with_operations os) later) s.operations (operation_forms s.sorts s.predicates) operation_step [] s.operations refl rest go
+  pub operations_go : (rest : List Form) → Onward (full s cs (map (operation_lines s) s.operations) []) rest → Onward (full s cs [] []) (flat_map (operation_forms s) s.operations ++ rest)
+  operations_go rest go = each_chunk (λ os later. Onward (with_operations os) later) s.operations (operation_forms s) operation_step [] s.operations refl rest go

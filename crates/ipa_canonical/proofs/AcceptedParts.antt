@@ -50,7 +50,7 @@ use Rattle.ipa_names.specs.NumberLaws.{repeat-map, slice_get-mapped}
 use Rattle.ipa_canonical.proofs.AcceptedNames.{none_zipped, among_at, use_clean, list_clean, counted_clean, Knows, knows_places, place_clean, variable_clean, comparison_clean}
 
 abbrev pub full : Specification → List ClauseLine → List OperationLines → List BoundLines → Declared
-full s cs os bs = record { sorts = s.sorts; predicates = map (predicate_line s.sorts) s.predicates; clauses = cs; operations = os; bounds = bs }
+full s cs os bs = record { sorts = s.sorts; constants = []; predicates = map (predicate_line s.sorts) s.predicates; clauses = cs; operations = os; bounds = bs }
 
 wild_clean : (flaw : Flaw) (add : Bool) → add ≡ false → wild_has flaw add ≡ false
 wild_clean WildAdd add h = h
@@ -64,10 +64,10 @@ none_true : (b : Bool) → (b ≡ true → ⊥) → b ≡ false
 none_true false h = refl
 none_true true h = absurd (h refl)
 
-module _ (s : Specification) (fit : IsFit s) (flaws : SpecificationParts s) (shaped : IsShaped s) (cs : List ClauseLine) (os : List OperationLines) (bs : List BoundLines) where
-  predicate_known : (own : Name) (n : ℕ) (p : Predicate) → slice_get s.predicates n ≡ Some p → predicate_named (full s cs os bs) (predicate_name s.predicates own n) ≡ Some (predicate_line s.sorts p)
+module _ (s : Specification) (fit : IsFit s) (flaws : SpecificationParts s) (shaped : IsShaped s) (none : s.constants ≡ []) (cs : List ClauseLine) (os : List OperationLines) (bs : List BoundLines) where
+  predicate_known : (own : Name) (n : ℕ) (p : Predicate) → slice_get s.predicates n ≡ Some p → predicate_named (full s cs os bs) (predicate_name s own n) ≡ Some (predicate_line s.sorts p)
   predicate_known own n p e =
-      let here : predicate_name s.predicates own n ≡ p.name = ap (λ f. option_map_or (λ q. q.name) f own) e in
+      let here : predicate_name s own n ≡ p.name = ap (λ f. option_map_or (λ q. q.name) f own) e in
       let stands : find (λ q. same_name q.name p.name) (map (predicate_line s.sorts) s.predicates) ≡ Some (predicate_line s.sorts p) =
       find_back (λ q. q.name) (map (predicate_line s.sorts) s.predicates) (repeat-map (λ q. q.name) (predicate_line s.sorts) s.predicates ∙ flaws.predicate_names) n (predicate_line s.sorts p) (slice_get-mapped (predicate_line s.sorts) s.predicates n p e) in
       ap (λ name. find (λ q. same_name q.name name) (map (predicate_line s.sorts) s.predicates)) here ∙ stands
@@ -75,10 +75,10 @@ module _ (s : Specification) (fit : IsFit s) (flaws : SpecificationParts s) (sha
   place_count : (n : ℕ) (p : Predicate) → slice_get s.predicates n ≡ Some p → length (predicate_line s.sorts p).sorts ≡ p.arity
   place_count n p e = length-map (take p.arity p.sorts) (λ k. slice_index_or s.sorts k p.name) ∙ length-take-le p.arity p.sorts (omega (arith, shaped.predicates n p e, fit.arities n p e))
 
-  arity_known : (own : Name) (n : ℕ) (p : Predicate) → slice_get s.predicates n ≡ Some p → arity_named (full s cs os bs) (predicate_name s.predicates own n) ≡ Some p.arity
+  arity_known : (own : Name) (n : ℕ) (p : Predicate) → slice_get s.predicates n ≡ Some p → arity_named (full s cs os bs) (predicate_name s own n) ≡ Some p.arity
   arity_known own n p e = ap (option_map (λ q. length q.sorts)) (predicate_known own n p e) ∙ ap (λ count. Some count) (place_count n p e)
 
-  places_known : (own : Name) (n : ℕ) (p : Predicate) → slice_get s.predicates n ≡ Some p → places_of (full s cs os bs) (predicate_name s.predicates own n) ≡ (predicate_line s.sorts p).sorts
+  places_known : (own : Name) (n : ℕ) (p : Predicate) → slice_get s.predicates n ≡ Some p → places_of (full s cs os bs) (predicate_name s own n) ≡ (predicate_line s.sorts p).sorts
   places_known own n p e = ap (λ f. option_map_or (λ q. q.sorts) f []) (predicate_known own n p e)
 
   -- what stands in a place that is said
@@ -93,9 +93,9 @@ module _ (s : Specification) (fit : IsFit s) (flaws : SpecificationParts s) (sha
   module _ (scope : List Typed) (names : List Name) (nums : List ℕ) (own : Name) (knows : Knows s.sorts scope names nums) where
     -- a term that has a sort is a variable of it
     term_known : (t : Term) (sort : ℕ) (sort_name : Name) → sort_of_term s nums t ≡ Some sort → slice_get s.sorts sort ≡ Some sort_name →
-        sort_of_variable scope (term_name own names t) ≡ Some sort_name
+        sort_of_variable scope (term_name s own names t) ≡ Some sort_name
     term_known (Variable v) sort sort_name e there = knows.each own v sort sort_name e there
-    term_known (Fixed k) sort sort_name e there = absurd (no_constant s fit k sort e)
+    term_known (Fixed k) sort sort_name e there = absurd (no_constant s none k sort e)
 
     term_below : (t : Term) (sort : ℕ) → sort_of_term s nums t ≡ Some sort → sort < length s.sorts
     term_below (Variable v) sort e = knows.declared v sort e
@@ -106,10 +106,10 @@ module _ (s : Specification) (fit : IsFit s) (flaws : SpecificationParts s) (sha
       below : slice_index p.sorts k < length s.sorts
       known : (sort : Name) → slice_get s.sorts (slice_index p.sorts k) ≡ Some sort → sort_of_variable scope name ≡ Some sort
 
-    said_at : (a : Atom) (fits : AtomFits s nums a) (k : ℕ) (name : Name) → slice_get (atom_form s.predicates own names a).args k ≡ Some name → SaidAt fits.predicate k name
+    said_at : (a : Atom) (fits : AtomFits s nums a) (k : ℕ) (name : Name) → slice_get (atom_form s own names a).args k ≡ Some name → SaidAt fits.predicate k name
     said_at a fits k name e =
         let arity : arity_of s.predicates a.predicate ≡ fits.predicate.arity = ap (λ found. option_map_or (λ q. q.arity) found 0) fits.declared in
-        let at = map_at (term_name own names) (take (arity_of s.predicates a.predicate) a.args) k name e in
+        let at = map_at (term_name s own names) (take (arity_of s.predicates a.predicate) a.args) k name e in
         let taken = take_at (arity_of s.predicates a.predicate) a.args k at.0 at.1 in
         let term : term_at a k ≡ at.0 = get_or_from_slice_get a.args k at.0 (Variable 0) taken.1 in
         let here : sort_of_term s nums at.0 ≡ Some (slice_index fits.predicate.sorts k) =
@@ -119,14 +119,14 @@ module _ (s : Specification) (fit : IsFit s) (flaws : SpecificationParts s) (sha
           known = λ sort there. subst (λ x. sort_of_variable scope x ≡ Some sort) at.2 (term_known at.0 (slice_index fits.predicate.sorts k) sort here there);
         }
 
-    atom_clean : (flaw : Flaw) (a : Atom) → AtomFits s nums a → length a.args ≡ 3 → atom_has flaw (full s cs os bs) scope (atom_form s.predicates own names a) ≡ false
+    atom_clean : (flaw : Flaw) (a : Atom) → AtomFits s nums a → length a.args ≡ 3 → atom_has flaw (full s cs os bs) scope (atom_form s own names a) ≡ false
     atom_clean flaw a fits wide =
         let p = fits.predicate in
         let arity : arity_of s.predicates a.predicate ≡ p.arity = ap (λ found. option_map_or (λ q. q.arity) found 0) fits.declared in
-        let args = (atom_form s.predicates own names a).args in
-        let places = places_of (full s cs os bs) (predicate_name s.predicates own a.predicate) in
-        let count : length args ≡ p.arity = length-map (take (arity_of s.predicates a.predicate) a.args) (term_name own names) ∙ length-take-le (arity_of s.predicates a.predicate) a.args (omega (arith, arity, wide, fits.short)) ∙ arity in
-        let used = use_clean flaw (arity_named (full s cs os bs) (predicate_name s.predicates own a.predicate)) p.arity (length args) (arity_known own a.predicate p fits.declared) count in
+        let args = (atom_form s own names a).args in
+        let places = places_of (full s cs os bs) (predicate_name s own a.predicate) in
+        let count : length args ≡ p.arity = length-map (take (arity_of s.predicates a.predicate) a.args) (term_name s own names) ∙ length-take-le (arity_of s.predicates a.predicate) a.args (omega (arith, arity, wide, fits.short)) ∙ arity in
+        let used = use_clean flaw (arity_named (full s cs os bs) (predicate_name s own a.predicate)) p.arity (length args) (arity_known own a.predicate p fits.declared) count in
         let placed : list_any (place_has flaw scope) (zip args places) ≡ false =
         ap (λ all. list_any (place_has flaw scope) (zip args all)) (places_known own a.predicate p fits.declared)
         ∙ none_zipped (place_has flaw scope) args (predicate_line s.sorts p).sorts (λ k name sort e f.
@@ -136,17 +136,17 @@ module _ (s : Specification) (fit : IsFit s) (flaws : SpecificationParts s) (sha
         let said = said_at a fits k name e in
         let sort = slice_index_or s.sorts (slice_index p.sorts k) own in
         variable_clean flaw scope name sort (said.known sort (found_at s.sorts (slice_index p.sorts k) own said.below))) in
-        or_from (use_has flaw (arity_named (full s cs os bs) (predicate_name s.predicates own a.predicate)) (length args) || list_any (place_has flaw scope) (zip args places)) (list_any (variable_has flaw scope) args)
-        (or_from (use_has flaw (arity_named (full s cs os bs) (predicate_name s.predicates own a.predicate)) (length args)) (list_any (place_has flaw scope) (zip args places)) used placed) free
+        or_from (use_has flaw (arity_named (full s cs os bs) (predicate_name s own a.predicate)) (length args) || list_any (place_has flaw scope) (zip args places)) (list_any (variable_has flaw scope) args)
+        (or_from (use_has flaw (arity_named (full s cs os bs) (predicate_name s own a.predicate)) (length args)) (list_any (place_has flaw scope) (zip args places)) used placed) free
 
     compared : (flaw : Flaw) (v w : Term) (sort : ℕ) → sort_of_term s nums v ≡ Some sort → sort_of_term s nums w ≡ Some sort →
-        literal_has flaw (full s cs os bs) scope (literal_form s.predicates own names (Same v w)) ≡ false
+        literal_has flaw (full s cs os bs) scope (literal_form s own names (Same v w)) ≡ false
     compared flaw v w sort e f =
         let name = slice_index_or s.sorts sort own in
         let there = found_at s.sorts sort own (term_below v sort e) in
-        comparison_clean flaw scope (term_name own names v) (term_name own names w) name (term_known v sort name e there) (term_known w sort name f there)
+        comparison_clean flaw scope (term_name s own names v) (term_name s own names w) name (term_known v sort name e there) (term_known w sort name f there)
 
-    pub literal_clean : (flaw : Flaw) (l : Literal) → LiteralFits s nums l → LiteralShaped l → literal_has flaw (full s cs os bs) scope (literal_form s.predicates own names l) ≡ false
+    pub literal_clean : (flaw : Flaw) (l : Literal) → LiteralFits s nums l → LiteralShaped l → literal_has flaw (full s cs os bs) scope (literal_form s own names l) ≡ false
     literal_clean flaw (Holds a) fits wide = atom_clean flaw a fits wide
     literal_clean flaw (Fails a) fits wide = atom_clean flaw a fits wide
     literal_clean flaw (Same v w) fits wide = compared flaw v w fits.sort fits.first fits.second
@@ -157,13 +157,13 @@ module _ (s : Specification) (fit : IsFit s) (flaws : SpecificationParts s) (sha
       arg : Arg
       place : k < p.arity
       stands : slice_index_or e.args k Any ≡ arg
-      argument_is : arg_form own names arg ≡ argument
+      argument_is : arg_form s own names arg ≡ argument
       not_fixed : (c : ℕ) → arg ≡ FixedArg c → ⊥
 
-    given_at : (e : Effect) (fits : EffectFits s nums e) (k : ℕ) (argument : Option Name) → slice_get (args_form s.predicates own names e) k ≡ Some argument → GivenAt e fits.predicate k argument
+    given_at : (e : Effect) (fits : EffectFits s nums e) (k : ℕ) (argument : Option Name) → slice_get (args_form s own names e) k ≡ Some argument → GivenAt e fits.predicate k argument
     given_at e fits k argument is =
         let arity : arity_of s.predicates e.predicate ≡ fits.predicate.arity = ap (λ found. option_map_or (λ q. q.arity) found 0) fits.declared in
-        let at = map_at (arg_form own names) (take (arity_of s.predicates e.predicate) e.args) k argument is in
+        let at = map_at (arg_form s own names) (take (arity_of s.predicates e.predicate) e.args) k argument is in
         let taken = take_at (arity_of s.predicates e.predicate) e.args k at.0 at.1 in
         let here : slice_index_or e.args k Any ≡ at.0 = get_or_from_slice_get e.args k at.0 Any taken.1 in
         record {
@@ -171,33 +171,33 @@ module _ (s : Specification) (fit : IsFit s) (flaws : SpecificationParts s) (sha
           place = omega (arith, arity, taken.0);
           stands = here;
           argument_is = at.2;
-          not_fixed = λ c same. no_constant s fit c (slice_index fits.predicate.sorts k) (fits.fixed k c (omega (arith, arity, taken.0)) (here ∙ same));
+          not_fixed = λ c same. no_constant s none c (slice_index fits.predicate.sorts k) (fits.fixed k c (omega (arith, arity, taken.0)) (here ∙ same));
         }
 
     place_given : (flaw : Flaw) (arg : Arg) (sort : ℕ) (name : Name) → ((c : ℕ) → arg ≡ FixedArg c → ⊥) →
         ((v : ℕ) → arg ≡ Parameter v → slice_get nums v ≡ Some sort) → slice_get s.sorts sort ≡ Some name →
-        argument_place_has flaw scope (arg_form own names arg, name) ≡ false
+        argument_place_has flaw scope (arg_form s own names arg, name) ≡ false
     place_given flaw (Parameter v) sort name none h is = place_clean flaw scope (slice_index_or names v own) name (knows.each own v sort name (h v refl) is)
     place_given flaw (FixedArg c) sort name none h is = absurd (none c refl)
     place_given flaw Any sort name none h is = refl
 
     use_given : (flaw : Flaw) (add : Bool) (arg : Arg) (sort : ℕ) → ((c : ℕ) → arg ≡ FixedArg c → ⊥) →
         ((v : ℕ) → arg ≡ Parameter v → slice_get nums v ≡ Some sort) → (arg ≡ Any → add ≡ false) →
-        argument_has flaw scope add (arg_form own names arg) ≡ false
+        argument_has flaw scope add (arg_form s own names arg) ≡ false
     use_given flaw add (Parameter v) sort none h wild =
         let there = found_at s.sorts sort own (knows.declared v sort (h v refl)) in
         variable_clean flaw scope (slice_index_or names v own) (slice_index_or s.sorts sort own) (knows.each own v sort (slice_index_or s.sorts sort own) (h v refl) there)
     use_given flaw add (FixedArg c) sort none h wild = absurd (none c refl)
     use_given flaw add Any sort none h wild = wild_clean flaw add (wild refl)
 
-    pub effect_clean : (flaw : Flaw) (add : Bool) (e : Effect) → (add ≡ true → e.add ≡ true) → EffectFits s nums e → length e.args ≡ 3 → effect_has flaw (full s cs os bs) scope (record { add = add; predicate = predicate_name s.predicates own e.predicate; args = args_form s.predicates own names e }) ≡ false
+    pub effect_clean : (flaw : Flaw) (add : Bool) (e : Effect) → (add ≡ true → e.add ≡ true) → EffectFits s nums e → length e.args ≡ 3 → effect_has flaw (full s cs os bs) scope (record { add = add; predicate = predicate_name s own e.predicate; args = args_form s own names e }) ≡ false
     effect_clean flaw add e adds fits wide =
         let p = fits.predicate in
         let arity : arity_of s.predicates e.predicate ≡ p.arity = ap (λ found. option_map_or (λ q. q.arity) found 0) fits.declared in
-        let args = args_form s.predicates own names e in
-        let places = places_of (full s cs os bs) (predicate_name s.predicates own e.predicate) in
-        let count : length args ≡ p.arity = length-map (take (arity_of s.predicates e.predicate) e.args) (arg_form own names) ∙ length-take-le (arity_of s.predicates e.predicate) e.args (omega (arith, arity, wide, fits.short)) ∙ arity in
-        let used = use_clean flaw (arity_named (full s cs os bs) (predicate_name s.predicates own e.predicate)) p.arity (length args) (arity_known own e.predicate p fits.declared) count in
+        let args = args_form s own names e in
+        let places = places_of (full s cs os bs) (predicate_name s own e.predicate) in
+        let count : length args ≡ p.arity = length-map (take (arity_of s.predicates e.predicate) e.args) (arg_form s own names) ∙ length-take-le (arity_of s.predicates e.predicate) e.args (omega (arith, arity, wide, fits.short)) ∙ arity in
+        let used = use_clean flaw (arity_named (full s cs os bs) (predicate_name s own e.predicate)) p.arity (length args) (arity_known own e.predicate p fits.declared) count in
         let placed : list_any (argument_place_has flaw scope) (zip args places) ≡ false =
         ap (λ all. list_any (argument_place_has flaw scope) (zip args all)) (places_known own e.predicate p fits.declared)
         ∙ none_zipped (argument_place_has flaw scope) args (predicate_line s.sorts p).sorts (λ k argument sort is f.
@@ -207,8 +207,8 @@ module _ (s : Specification) (fit : IsFit s) (flaws : SpecificationParts s) (sha
         let given = given_at e fits k argument is in
         subst (λ x. argument_has flaw scope add x ≡ false) given.argument_is (use_given flaw add given.arg (slice_index p.sorts k) given.not_fixed (λ v same. fits.places k v given.place (given.stands ∙ same))
         (λ any. none_true add (λ is_add. fits.exact (adds is_add) k given.place (given.stands ∙ any))))) in
-        or_from (use_has flaw (arity_named (full s cs os bs) (predicate_name s.predicates own e.predicate)) (length args) || list_any (argument_place_has flaw scope) (zip args places)) (list_any (argument_has flaw scope add) args)
-        (or_from (use_has flaw (arity_named (full s cs os bs) (predicate_name s.predicates own e.predicate)) (length args)) (list_any (argument_place_has flaw scope) (zip args places)) used placed) free
+        or_from (use_has flaw (arity_named (full s cs os bs) (predicate_name s own e.predicate)) (length args) || list_any (argument_place_has flaw scope) (zip args places)) (list_any (argument_has flaw scope add) args)
+        (or_from (use_has flaw (arity_named (full s cs os bs) (predicate_name s own e.predicate)) (length args)) (list_any (argument_place_has flaw scope) (zip args places)) used placed) free
 
   -- what is known of a bound
   record BoundIs (b : Bound) : Type 0 where
@@ -234,11 +234,11 @@ module _ (s : Specification) (fit : IsFit s) (flaws : SpecificationParts s) (sha
         counted = fit.counted n b p e found.1;
       }
 
-  pub bound_clean : (flaw : Flaw) (n : ℕ) (b : Bound) → slice_get s.bounds n ≡ Some b → bound_has flaw (full s cs os bs) (predicate_name s.predicates b.name b.predicate) (bound_vars s.predicates b) (slice_index_or b.vars b.counted b.name) ≡ false
+  pub bound_clean : (flaw : Flaw) (n : ℕ) (b : Bound) → slice_get s.bounds n ≡ Some b → bound_has flaw (full s cs os bs) (predicate_name s b.name b.predicate) (bound_vars s.predicates b) (slice_index_or b.vars b.counted b.name) ≡ false
   bound_clean flaw n b e =
       let is = bound_is n b e in
       let vars = bound_vars s.predicates b in
-      let name = predicate_name s.predicates b.name b.predicate in
+      let name = predicate_name s b.name b.predicate in
       let counted = slice_index_or b.vars b.counted b.name in
       let arity : arity_of s.predicates b.predicate ≡ is.predicate.arity = ap (λ f. option_map_or (λ q. q.arity) f 0) is.declared in
       let there : slice_get vars b.counted ≡ Some counted =
@@ -247,7 +247,7 @@ module _ (s : Specification) (fit : IsFit s) (flaws : SpecificationParts s) (sha
       (or_from (use_has flaw (arity_named (full s cs os bs) name) (length vars)) (list_has flaw vars) (use_clean flaw (arity_named (full s cs os bs) name) is.predicate.arity (length vars) (arity_known b.name b.predicate is.predicate is.declared) is.many) (list_clean flaw vars is.apart))
       (counted_clean flaw vars counted (among_at vars b.counted counted there))
 
-  pub knows_bound : (n : ℕ) (b : Bound) → slice_get s.bounds n ≡ Some b → Knows s.sorts (typed_by_places (bound_vars s.predicates b) (places_of (full s cs os bs) (predicate_name s.predicates b.name b.predicate))) (bound_vars s.predicates b) (place_sorts s.predicates b.predicate)
+  pub knows_bound : (n : ℕ) (b : Bound) → slice_get s.bounds n ≡ Some b → Knows s.sorts (typed_by_places (bound_vars s.predicates b) (places_of (full s cs os bs) (predicate_name s b.name b.predicate))) (bound_vars s.predicates b) (place_sorts s.predicates b.predicate)
   knows_bound n b e =
       let is = bound_is n b e in
       let p = is.predicate in

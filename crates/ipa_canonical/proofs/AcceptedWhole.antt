@@ -76,10 +76,10 @@ pub record Printed (s : Specification) : Type 0 where
   pub back : specification_of (standing_of (forms_of s)).declared ≡ s
   pub few : length s.clauses ≤ 32
 
-module _ (s : Specification) (printed : Printed s) where
+module _ (s : Specification) (none : s.constants ≡ []) (printed : Printed s) where
   pub read_back : Keeps s no_elements is_no_fact → IsReadBack s
   read_back keeps =
-      let arranged = nothing_said s in
+      let arranged = nothing_said s none in
       let kept = kept_alone s printed.few keeps in
       record {
         document = document_alone s kept;
@@ -103,7 +103,7 @@ module _ (s : Specification) (printed : Printed s) where
   refused_back : Breaks s → IsRefusedBack s
   refused_back breaks =
       let broken : Broken = record { clause = breaks.number; values = no_values } in
-      let arranged = nothing_said s in
+      let arranged = nothing_said s none in
       let name = breaks.first.clause.name in
       let names = element_names [] (sorts_of_vars breaks.first.clause.vars) no_values in
       let named : IsNamed s [] broken name names = record { clause = breaks.first.clause; declared = breaks.first.declared; name_is = refl; names_are = refl } in
@@ -136,13 +136,13 @@ kept_back s h =
     (subst (λ all. Keeps s all (has d.setup.base)) sizes
     (subst (λ x. Keeps x d.setup.universe.sizes (has d.setup.base)) h.alone.spec h.reads.kept.clauses))
 
-pub read_or_refused : (s : Specification) → Printed s → IsReadBack s ⊎ IsRefusedBack s
-read_or_refused s printed = elim (keeps_or_breaks s) [ inl keeps ↦ inl (read_back s printed keeps) | inr breaks ↦ inr (refused_back s printed breaks) ]
+pub read_or_refused : (s : Specification) → s.constants ≡ [] → Printed s → IsReadBack s ⊎ IsRefusedBack s
+read_or_refused s none printed = elim (keeps_or_breaks s) [ inl keeps ↦ inl (read_back s none printed keeps) | inr breaks ↦ inr (refused_back s none printed breaks) ]
 
 -- a text that reads as a document is not refused, and a refused one is refused in one way
 pub that_refusal : ((bytes : List ℕ) (line other : ℕ) (kind another : DocKind) → IsRefused bytes line kind → IsRefused bytes other another → (line ≡ other) × (kind ≡ another)) → ((bytes : List ℕ) (document : Document) (line : ℕ) (kind : DocKind) → ReadsAs bytes document → IsRefused bytes line kind → ⊥) →
-    (s : Specification) → Printed s → (line : ℕ) (kind : DocKind) → IsRefused (canonical_text s) line kind → IsThatRefusal s line kind
-that_refusal one apart s printed line kind refused = elim (read_or_refused s printed) [
+    (s : Specification) → s.constants ≡ [] → Printed s → (line : ℕ) (kind : DocKind) → IsRefused (canonical_text s) line kind → IsThatRefusal s line kind
+that_refusal one apart s none printed line kind refused = elim (read_or_refused s none printed) [
   | inl read ↦ absurd (apart (canonical_text s) read.document line kind read.reads refused)
   | inr back ↦
       let same = one (canonical_text s) line (last_line (canonical_text s)) kind (BaseClause back.broken back.name back.names) refused back.refused in

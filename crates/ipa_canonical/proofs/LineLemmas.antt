@@ -26,7 +26,7 @@ use Rattle.ipa_forms.specs.Forms.{HasForm, HasMembers, says_exists}
 use Rattle.ipa_forms.specs.Layout.{line_of, text_of, HasNumbers}
 use Rattle.ipa_forms.specs.declared.forms.Form.{Form}
 use Rattle.ipa_forms.specs.declared.forms.Form.TheVariants.{Sort, Add, Del}
-use Rattle.ipa_canonical.specs.Canonical.{predicate_name, args_form, pred_form, clause_form, need_form, effect_form, remove_form, literal_form, names_of, operation_forms, bound_forms, bound_vars, forms_of}
+use Rattle.ipa_canonical.specs.Canonical.{const_form, predicate_name, args_form, pred_form, clause_form, need_form, effect_form, remove_form, literal_form, names_of, operation_forms, bound_forms, bound_vars, forms_of}
 use Rattle.ipa_canonical.specs.Sentences.{HasLiterals, IsSaidBy}
 use Rattle.ipa_canonical.proofs.PlainLemmas.{plain}
 
@@ -86,8 +86,8 @@ either_printable : (b : Bool) (f g : Form) → IsPrintable f → IsPrintable g �
 either_printable true f g h k = h
 either_printable false f g h k = k
 
-effect_printable : (ps : List Predicate) (own : Name) (vars : List Name) (e : Effect) → IsPrintable (effect_form ps own vars e)
-effect_printable ps own vars e = either_printable e.add (Add (predicate_name ps own e.predicate) (args_form ps own vars e)) (Del (predicate_name ps own e.predicate) (args_form ps own vars e)) (record { members = tt; numbers = tt }) (record { members = tt; numbers = tt })
+effect_printable : (s : Specification) (own : Name) (vars : List Name) (e : Effect) → IsPrintable (effect_form s own vars e)
+effect_printable s own vars e = either_printable e.add (Add (predicate_name s own e.predicate) (args_form s own vars e)) (Del (predicate_name s own e.predicate) (args_form s own vars e)) (record { members = tt; numbers = tt }) (record { members = tt; numbers = tt })
 
 most_below : (bs : List Bound) → size_outside (map (λ b. b.most) bs) ≡ None → (n : ℕ) (b : Bound) → slice_get bs n ≡ Some b → b.most ≤ 65535
 most_below [] h n b e = cc
@@ -99,14 +99,15 @@ most_below (c ∷ bs) h (suc n) b e = most_below bs (not_found (not (leb 1 c.mos
 pub printable : (s : Specification) → IsFaultless s → HasLiterals s → ArePrintable (forms_of s)
 printable s h literals =
     both _ _ (mapped (λ name. Sort name) s.sorts (λ n name e. record { members = tt; numbers = tt }))
+    (both _ _ (mapped (const_form s.sorts) s.constants (λ n c e. record { members = tt; numbers = tt }))
     (both _ _ (mapped (pred_form s.sorts) s.predicates (λ n p e. record { members = tt; numbers = tt }))
-    (both _ _ (mapped (clause_form s.sorts s.predicates) s.clauses (λ n c e. record { members = omega (arith, literals.each n c e, length-map c.literals (literal_form s.predicates c.name (names_of c.vars))); numbers = tt }))
-    (both _ _ (flattened (operation_forms s.sorts s.predicates) s.operations (λ n o e. (
+    (both _ _ (mapped (clause_form s) s.clauses (λ n c e. record { members = omega (arith, literals.each n c e, length-map c.literals (literal_form s c.name (names_of c.vars))); numbers = tt }))
+    (both _ _ (flattened (operation_forms s) s.operations (λ n o e. (
       record { members = tt; numbers = tt },
-      both _ _ (mapped (need_form s.predicates o.name (names_of o.params)) o.needs (λ k l is. record { members = tt; numbers = tt }))
-          (mapped (effect_form s.predicates o.name (names_of o.params)) o.effects (λ k effect is. effect_printable s.predicates o.name (names_of o.params) effect)),
+      both _ _ (mapped (need_form s o.name (names_of o.params)) o.needs (λ k l is. record { members = tt; numbers = tt }))
+          (mapped (effect_form s o.name (names_of o.params)) o.effects (λ k effect is. effect_printable s o.name (names_of o.params) effect)),
     )))
-    (flattened (bound_forms s.predicates) s.bounds (λ n b e. (
+    (flattened (bound_forms s) s.bounds (λ n b e. (
       record { members = tt; numbers = omega (arith, most_below s.bounds (limits_of-faultless s h 11 _ refl) n b e) },
-      mapped (remove_form s.predicates b.name (bound_vars s.predicates b)) b.removes (λ k effect is. record { members = tt; numbers = tt }),
-    ))))))
+      mapped (remove_form s b.name (bound_vars s.predicates b)) b.removes (λ k effect is. record { members = tt; numbers = tt }),
+    )))))))

@@ -18,7 +18,7 @@ use Rattle.ipa_forms.specs.declared.forms.AtomForm.{AtomForm}
 use Rattle.ipa_forms.specs.declared.forms.LiteralForm.{LiteralForm}
 use Rattle.ipa_forms.specs.declared.forms.LiteralForm.TheVariants.{Holds, Fails, Same, Differ}
 use Rattle.ipa_forms.specs.declared.forms.Form.{Form}
-use Rattle.ipa_forms.specs.declared.forms.Form.TheVariants.{Sort, Pred, Clause, Op, Need, Add, Del, Bound, Drops, Elem, Base, Replicas, Session, Do, Show}
+use Rattle.ipa_forms.specs.declared.forms.Form.TheVariants.{Sort, Const, Pred, Clause, Op, Need, Add, Del, Bound, Drops, Elem, Base, Replicas, Session, Do, Show}
 
 abbrev some_exists : List Word → Bool
 some_exists ws = list_any (is_text (codes "exists")) ws
@@ -70,6 +70,7 @@ literal_plain (Differ x y) = or_from _ _ (name_plain x) (or_from _ _ (name_plain
 
 pub plain : (f : Form) → says_exists (words_of f) ≡ false
 plain (Sort n) = refl
+plain (Const c) = refl
 plain (Pred n sorts rule) = refl
 plain (Clause n vars ls) =
     or_from _ _ (name_plain n) (both (listed typed_name vars) _ (listed_plain typed_name typed_plain vars) (joined_plain literal literal_plain (text (codes "or")) refl ls))
@@ -77,7 +78,7 @@ plain (Op n params) = refl
 plain (Need l) = refl
 plain (Add p args) = refl
 plain (Del p args) = refl
-plain (Bound n p vars counted most) = refl
+plain (Bound n p vars counted most pick) = refl
 plain (Drops p args) = refl
 plain (Elem sort elements) = refl
 plain (Base p elements) = refl

@@ -66,13 +66,14 @@ HaveLiterals cs = EachOf (λ c. 0 < length c.literals) cs
 
 one_more : (d : Declared) (f : Form) → HasMembers f → HaveLiterals d.clauses → HaveLiterals (with_declaration d f).clauses
 one_more d (line.Sort n) m h = h
+one_more d (line.Const c) m h = h
 one_more d (line.Pred n sorts rule) m h = h
 one_more d (line.Clause n vars ls) m h = each_push d.clauses (record { name = n; vars = vars; literals = ls }) h m
 one_more d (line.Op n params) m h = h
 one_more d (line.Need l) m h = h
 one_more d (line.Add p args) m h = h
 one_more d (line.Del p args) m h = h
-one_more d (line.Bound n p vars counted most) m h = h
+one_more d (line.Bound n p vars counted most pick) m h = h
 one_more d (line.Drops p args) m h = h
 one_more d (line.Elem n elements) m h = h
 one_more d (line.Base p elements) m h = h

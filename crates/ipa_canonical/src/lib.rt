@@ -1,9 +1,10 @@
 //! The canonical text of a specification. Each part has one line, in declared order and laid out in
-//! one way: sorts, predicates, clauses, operations with their needs and effects, and bounds with
-//! their further removes. Read again, each line has the form that it was written for.
+//! one way: sorts, constants, predicates, clauses, operations with their needs and effects, and
+//! bounds with their further removes. Read again, each line has the form that it was written for.
 //!
-//! The text is read back as the specification that it was printed from, or, exactly where a clause
-//! is broken without facts and elements, is refused for that instance.
+//! Where no constant is declared, the text is read back as the specification that it was printed
+//! from, or, exactly where a clause is broken without facts and elements, is refused for that
+//! instance.
 //!
 //! ```
 //! let text = print_spec(alloc, &document.spec)?; // of a document that was read
@@ -13,12 +14,14 @@
 
 mod canonical;
 mod canonical_laws;
+mod effects;
 mod naming;
 mod parts;
 mod rereading;
 
-pub use canonical::print_spec;
+pub use canonical::{print_spec, write_spec};
 pub use canonical_laws::canonical_lines;
+pub use effects::write_effect;
 pub use rereading::{
     declares_itself, document_read_back, fit_to_print, is_read_back, none_refused, reads_as_itself,
 };

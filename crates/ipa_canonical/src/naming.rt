@@ -1,9 +1,9 @@
 //! From numbers to names.
 ghost use Rattle.std.specs.Prelude.{◌≡◌, IfOk, map, take, slice_index_or};
 ghost use Rattle.ipa_spec.specs.Actions.{arity_of};
-ghost use Rattle.ipa_canonical.specs.Canonical.{names_at, names_of, predicate_name};
+ghost use Rattle.ipa_canonical.specs.Canonical.{constant_name, names_at, names_of, predicate_name};
 
-use ipa_spec::{List, Name, Predicate, Var};
+use ipa_spec::{List, Name, Predicate, Spec, Var};
 use std::alloc::{AllocError, Global};
 
 /// The name of a number, and another where there is none.
@@ -51,11 +51,21 @@ pub(crate) fn names_of(alloc: Global, vars: &[Var]) -> Result<Vec<Name>, AllocEr
 }
 
 /// The name of a predicate, and another where there is none.
-pub(crate) fn predicate_name(predicates: &List<Predicate>, own: Name, number: u8) -> Name
-    ensures { result ≡ predicate_name predicates.now own number }
+pub(crate) fn predicate_name(spec: &Spec, own: Name, number: u8) -> Name
+    ensures { result ≡ predicate_name spec.now own number }
 {
-    match predicates.get(number as usize) {
+    match spec.predicates().get(number as usize) {
         Some(predicate) => predicate.name,
+        None => own,
+    }
+}
+
+/// The name of a constant, and another where there is none.
+pub(crate) fn constant_name(spec: &Spec, own: Name, number: u8) -> Name
+    ensures { result ≡ constant_name spec.now own number }
+{
+    match spec.constants().get(number as usize) {
+        Some(constant) => constant.name,
         None => own,
     }
 }

@@ -1,7 +1,7 @@
 //! Laws on canonical texts that are read again. These functions do nothing: what they ensure is the law.
 //!
 //! They speak of specifications without a fault whose clauses have literals and whose parts have
-//! lists of three places, as all specifications of documents have.
+//! lists of three places, as all specifications of documents have, and which declare no constants.
 ghost use Rattle.std.specs.Prelude.{◌≡◌, ◌↔◌, ◌⊎◌, ℕ, List};
 ghost use Rattle.ipa_spec.specs.Limits.{IsFaultless};
 ghost use Rattle.ipa_spec.specs.declared.specification.Specification.{Specification};
@@ -13,7 +13,7 @@ ghost use Rattle.ipa_reader.specs.declared.refusals.DocKind.{DocKind};
 ghost use Rattle.ipa_canonical.specs.Canonical.{canonical_text, forms_of};
 ghost use Rattle.ipa_canonical.specs.Sentences.{HasLiterals};
 ghost use Rattle.ipa_canonical.specs.Alone.{IsAlone};
-ghost use Rattle.ipa_canonical.specs.Shapes.{IsShaped};
+ghost use Rattle.ipa_canonical.specs.Shapes.{HasNoConstants, IsShaped};
 ghost use Rattle.ipa_canonical.specs.Rereading.{no_elements, is_no_fact, IsReadBack, IsRefusedBack, IsThatRefusal};
 ghost use Rattle.ipa_logic.specs.Truth.{Keeps};
 
@@ -31,7 +31,7 @@ pub fn fit_to_print()
 
 /// The lines of a canonical text declare the specification that it was printed from.
 pub fn declares_itself()
-    ensures { (s : Specification) → IsFaultless s → IsShaped s → specification_of (standing_of (forms_of s)).declared ≡ s }
+    ensures { (s : Specification) → IsFaultless s → IsShaped s → HasNoConstants s → specification_of (standing_of (forms_of s)).declared ≡ s }
 {
     one_form();
     reads_back();
@@ -39,13 +39,13 @@ pub fn declares_itself()
 
 /// No line of a canonical text is refused, given those before it.
 pub fn none_refused()
-    ensures { (s : Specification) → IsFaultless s → IsShaped s → AreAccepted (forms_of s) }
+    ensures { (s : Specification) → IsFaultless s → IsShaped s → HasNoConstants s → AreAccepted (forms_of s) }
 {}
 
 /// Where a canonical text reads as a document, its specification is the one that the text was
 /// printed from, and its setup is the one that no line says.
 pub fn reads_as_itself()
-    ensures { (s : Specification) (document : Document) → IsFaultless s → IsShaped s → HasLiterals s → ReadsAs (canonical_text s) document → IsAlone s document }
+    ensures { (s : Specification) (document : Document) → IsFaultless s → IsShaped s → HasLiterals s → HasNoConstants s → ReadsAs (canonical_text s) document → IsAlone s document }
 {
     declares_itself();
     canonical_lines();
@@ -59,9 +59,9 @@ pub fn reads_as_itself()
 /// without facts and elements. Elsewhere it is refused at its last line, for the first instance that
 /// is broken there, and for nothing else.
 pub fn is_read_back()
-    ensures exactly { (s : Specification) → IsFaultless s → IsShaped s → HasLiterals s → (IsReadBack s ↔ Keeps s no_elements is_no_fact) }
-    ensures either { (s : Specification) → IsFaultless s → IsShaped s → HasLiterals s → IsReadBack s ⊎ IsRefusedBack s }
-    ensures refusals { (s : Specification) (line : ℕ) (kind : DocKind) → IsFaultless s → IsShaped s → HasLiterals s → IsRefused (canonical_text s) line kind → IsThatRefusal s line kind }
+    ensures exactly { (s : Specification) → IsFaultless s → IsShaped s → HasLiterals s → HasNoConstants s → (IsReadBack s ↔ Keeps s no_elements is_no_fact) }
+    ensures either { (s : Specification) → IsFaultless s → IsShaped s → HasLiterals s → HasNoConstants s → IsReadBack s ⊎ IsRefusedBack s }
+    ensures refusals { (s : Specification) (line : ℕ) (kind : DocKind) → IsFaultless s → IsShaped s → HasLiterals s → HasNoConstants s → IsRefused (canonical_text s) line kind → IsThatRefusal s line kind }
 {
     none_refused();
     declares_itself();
@@ -69,9 +69,9 @@ pub fn is_read_back()
     one_reading();
 }
 
-/// What is printed of the specification of a document is read back whole.
+/// What is printed of the specification of a document without constants is read back whole.
 pub fn document_read_back()
-    ensures { (bytes : List ℕ) (document : Document) → ReadsAs bytes document → IsReadBack document.spec ⊎ IsRefusedBack document.spec }
+    ensures { (bytes : List ℕ) (document : Document) → ReadsAs bytes document → HasNoConstants document.spec → IsReadBack document.spec ⊎ IsRefusedBack document.spec }
 {
     document_faultless();
     fit_to_print();

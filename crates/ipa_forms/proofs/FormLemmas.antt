@@ -10,7 +10,7 @@ use Rattle.ipa_forms.specs.Forms.{IsSaid}
 use Rattle.ipa_forms.specs.Parts.{HasNone, IsFirst}
 use Rattle.ipa_forms.specs.Lines.{keyword_alone, keyword_text, IsFormRead, NoneFor}
 use Rattle.ipa_forms.specs.declared.forms.Form.{Form}
-use Rattle.ipa_forms.specs.declared.forms.Form.TheVariants.{Sort, Pred, Clause, Op, Need, Add, Del, Bound, Drops, Elem, Base, Replicas, Session, Do, Show}
+use Rattle.ipa_forms.specs.declared.forms.Form.TheVariants.{Sort, Const, Pred, Clause, Op, Need, Add, Del, Bound, Drops, Elem, Base, Replicas, Session, Do, Show}
 use Rattle.ipa_forms.specs.declared.keywords.TheConstants.{KEYWORDS}
 use Rattle.ipa_forms.specs.declared.keywords.Keyword.{Keyword}
 use Rattle.ipa_forms.specs.declared.keywords.Keyword.TheVariants as keys
@@ -32,6 +32,7 @@ text-written bytes k e = sym ((bytes_eq-Decides (keyword_text k) bytes).0 (find_
 
 written-text : (k : Keyword) → written (keyword_text k) ≡ Some k
 written-text keys.Sort = refl
+written-text keys.Const = refl
 written-text keys.Pred = refl
 written-text keys.Clause = refl
 written-text keys.Op = refl
@@ -61,13 +62,14 @@ keyword_first all left kind bytes k first is_word passed same =
 -- a line without a keyword has no form
 pub no_keyword : (all : List Word) → HasNone keyword_alone all → (f : Form) → IsSaid all f → ⊥
 no_keyword all none (Sort n) h = none keys.Sort _ h.words_are
+no_keyword all none (Const c) h = none keys.Const _ h.words_are
 no_keyword all none (Pred n sorts rule) h = none keys.Pred _ h.words_are
 no_keyword all none (Clause n vars literals) h = none keys.Clause _ h.words_are
 no_keyword all none (Op n params) h = none keys.Op _ h.words_are
 no_keyword all none (Need l) h = none keys.Need _ h.words_are
 no_keyword all none (Add p args) h = none keys.Add _ h.words_are
 no_keyword all none (Del p args) h = none keys.Del _ h.words_are
-no_keyword all none (Bound n p vars counted most) h = none keys.Bound _ h.words_are
+no_keyword all none (Bound n p vars counted most pick) h = none keys.Bound _ h.words_are
 no_keyword all none (Drops p args) h = none keys.Drops _ h.words_are
 no_keyword all none (Elem sort elements) h = none keys.Elem _ h.words_are
 no_keyword all none (Base p elements) h = none keys.Base _ h.words_are
@@ -86,13 +88,14 @@ at_keyword k l all rest none e =
 -- where nothing completes a form of this keyword, the line has no form
 pub no_form : (k : Keyword) (all : List Word) → NoneFor k all → (f : Form) → IsSaid (text (keyword_text k) ∷ all) f → ⊥
 no_form k all none (Sort n) h = let at = at_keyword k keys.Sort all _ none h.words_are in at.0 n at.1
+no_form k all none (Const c) h = let at = at_keyword k keys.Const all _ none h.words_are in at.0 c at.1
 no_form k all none (Pred n sorts rule) h = let at = at_keyword k keys.Pred all _ none h.words_are in at.0 n sorts rule at.1
 no_form k all none (Clause n vars literals) h = let at = at_keyword k keys.Clause all _ none h.words_are in at.0 n vars literals h.members at.1
 no_form k all none (Op n params) h = let at = at_keyword k keys.Op all _ none h.words_are in at.0 (n, params) at.1
 no_form k all none (Need l) h = let at = at_keyword k keys.Need all _ none h.words_are in at.0 l at.1
 no_form k all none (Add p args) h = let at = at_keyword k keys.Add all _ none h.words_are in at.0 (p, args) at.1
 no_form k all none (Del p args) h = let at = at_keyword k keys.Del all _ none h.words_are in at.0 (p, args) at.1
-no_form k all none (Bound n p vars counted most) h = let at = at_keyword k keys.Bound all _ none h.words_are in at.0 n p vars counted most at.1
+no_form k all none (Bound n p vars counted most pick) h = let at = at_keyword k keys.Bound all _ none h.words_are in at.0 n p vars counted most pick at.1
 no_form k all none (Drops p args) h = let at = at_keyword k keys.Drops all _ none h.words_are in at.0 (p, args) at.1
 no_form k all none (Elem sort elements) h = let at = at_keyword k keys.Elem all _ none h.words_are in at.0 sort elements h.members at.1
 no_form k all none (Base p elements) h = let at = at_keyword k keys.Base all _ none h.words_are in at.0 (p, elements) at.1

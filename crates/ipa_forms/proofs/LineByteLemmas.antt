@@ -17,7 +17,7 @@ use Rattle.ipa_text.specs.declared.tokens.TokenKind.{TokenKind}
 use Rattle.ipa_text.specs.declared.tokens.TokenKind.TheVariants as kinds
 use Rattle.ipa_forms.specs.Layout.{line_of}
 use Rattle.ipa_forms.specs.declared.forms.Form.{Form}
-use Rattle.ipa_forms.specs.declared.forms.Form.TheVariants.{Sort, Pred, Clause, Op, Need, Add, Del, Bound, Drops, Elem, Base, Replicas, Session, Do, Show}
+use Rattle.ipa_forms.specs.declared.forms.Form.TheVariants.{Sort, Const, Pred, Clause, Op, Need, Add, Del, Bound, Drops, Elem, Base, Replicas, Session, Do, Show}
 
 abbrev pub is_shown : ℕ → Bool
 is_shown b = ltb 31 b
@@ -83,13 +83,14 @@ nothing_stripped bytes h = ap (λ b. if b then take (length bytes - 1) bytes els
 
 pub line_of-content : (f : Form) → has_content (line_of f) ≡ true
 line_of-content (Sort n) = refl
+line_of-content (Const c) = refl
 line_of-content (Pred n sorts rule) = refl
 line_of-content (Clause n vars ls) = refl
 line_of-content (Op n params) = refl
 line_of-content (Need l) = refl
 line_of-content (Add p args) = refl
 line_of-content (Del p args) = refl
-line_of-content (Bound n p vars counted most) = refl
+line_of-content (Bound n p vars counted most pick) = refl
 line_of-content (Drops p args) = refl
 line_of-content (Elem n elements) = refl
 line_of-content (Base p elements) = refl

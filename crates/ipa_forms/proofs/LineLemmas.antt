@@ -67,12 +67,12 @@ no_clause_end all left p e ls rest joined more n vars literals some h =
     more ((joined_once literal (text (codes "or")) IsUnmixed-literal ls literals left rest [] joined other).1)
 
 pub no_bound_head : (all left : List Word) (m : Name) → all ≡ name m ∷ left → HasNone (applied name_alone) left → NoneFor Bound all
-no_bound_head all left m e none n p vars counted most h = none (p, vars) (limit (counted, most)) (cc)
+no_bound_head all left m e none n p vars counted most pick h = none (p, vars) (limit (counted, most, pick)) (cc)
 
 pub no_bound_limit : (all left rest : List Word) (m : Name) (q : Name × List Name) → all ≡ name m ∷ left → left ≡ applied name_alone q ++ rest → NoWhole limit rest → NoneFor Bound all
-no_bound_limit all left rest m q e f none n p vars counted most h =
-    let tail : left ≡ applied name_alone (p, vars) ++ limit (counted, most) = cc in
-    none (counted, most) ((names_unmixed q (p, vars) rest (limit (counted, most)) (sym f ∙ tail)).1)
+no_bound_limit all left rest m q e f none n p vars counted most pick h =
+    let tail : left ≡ applied name_alone (p, vars) ++ limit (counted, most, pick) = cc in
+    none (counted, most, pick) ((names_unmixed q (p, vars) rest (limit (counted, most, pick)) (sym f ∙ tail)).1)
 
 -- behind these names stands something that is no name
 pub no_names : (xs : List Name) (all left : List Word) → all ≡ map name xs ++ left → (left ≡ [] → ⊥) → HasNone name_alone left → (ns : List Name) → all ≡ map name ns → ⊥

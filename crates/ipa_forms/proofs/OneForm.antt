@@ -7,9 +7,11 @@ use Rattle.ipa_spec.specs.NameLaws.{one_name}
 use Rattle.ipa_spec.specs.declared.names.Name.{Name}
 use Rattle.ipa_spec.specs.declared.predicates.Rule.{Rule}
 use Rattle.ipa_spec.specs.declared.predicates.Rule.TheVariants.{AddWins, RemoveWins}
+use Rattle.ipa_spec.specs.declared.bounds.Pick.{Pick}
+use Rattle.ipa_spec.specs.declared.bounds.Pick.TheVariants.{Greatest, Youngest}
 use Rattle.ipa_text.specs.declared.tokens.TokenKind.TheVariants.{Close, Colon, Comma}
 use Rattle.ipa_forms.specs.Words.{Word, text, number, sign}
-use Rattle.ipa_forms.specs.Forms.{name, name_alone, place, typed_name, listed, atom, literal, alternatives, rule_word, words_of}
+use Rattle.ipa_forms.specs.Forms.{name, name_alone, place, typed_name, listed, atom, literal, alternatives, rule_word, pick_words, words_of}
 use Rattle.ipa_forms.specs.Parts.{IsOpen, IsUnmixed}
 use Rattle.ipa_forms.specs.Lines.{keyword_text}
 use Rattle.ipa_forms.specs.ListingLaws.{same_inside}
@@ -18,7 +20,7 @@ use Rattle.ipa_forms.specs.declared.forms.Typed.{Typed}
 use Rattle.ipa_forms.specs.declared.forms.AtomForm.{AtomForm}
 use Rattle.ipa_forms.specs.declared.forms.LiteralForm.TheVariants.{Holds, Fails, Same, Differ}
 use Rattle.ipa_forms.specs.declared.forms.Form.{Form}
-use Rattle.ipa_forms.specs.declared.forms.Form.TheVariants.{Sort, Pred, Clause, Op, Need, Add, Del, Bound, Drops, Elem, Base, Replicas, Session, Do, Show}
+use Rattle.ipa_forms.specs.declared.forms.Form.TheVariants.{Sort, Const, Pred, Clause, Op, Need, Add, Del, Bound, Drops, Elem, Base, Replicas, Session, Do, Show}
 use Rattle.ipa_forms.specs.declared.keywords.Keyword.{Keyword}
 use Rattle.ipa_forms.specs.declared.keywords.Keyword.TheVariants as keys
 use Rattle.ipa_forms.proofs.FormLemmas.{same_keyword}
@@ -121,6 +123,12 @@ same_rule AddWins RemoveWins e = absurd (addwins≢remwins (cc))
 same_rule RemoveWins AddWins e = absurd (addwins≢remwins (sym (cc)))
 same_rule RemoveWins RemoveWins e = refl
 
+same_pick : (p q : Pick) → pick_words p ≡ pick_words q → p ≡ q
+same_pick Greatest Greatest e = refl
+same_pick Greatest Youngest e = absurd (cc)
+same_pick Youngest Greatest e = absurd (cc)
+same_pick Youngest Youngest e = refl
+
 same_names : (xs ys : List Name) → map name xs ≡ map name ys → xs ≡ ys
 same_names [] [] e = refl
 same_names [] (y ∷ ys) e = absurd (cc)
@@ -133,13 +141,14 @@ same_names (x ∷ xs) (y ∷ ys) e =
 -- the keyword of a form
 abbrev key : Form → Keyword
 key (Sort n) = keys.Sort
+key (Const c) = keys.Const
 key (Pred n sorts rule) = keys.Pred
 key (Clause n vars literals) = keys.Clause
 key (Op n params) = keys.Op
 key (Need l) = keys.Need
 key (Add p args) = keys.Add
 key (Del p args) = keys.Del
-key (Bound n p vars counted most) = keys.Bound
+key (Bound n p vars counted most pick) = keys.Bound
 key (Drops p args) = keys.Drops
 key (Elem sort elements) = keys.Elem
 key (Base p elements) = keys.Base
@@ -154,13 +163,14 @@ behind f = drop 1 (words_of f)
 
 keyed : (f : Form) → words_of f ≡ text (keyword_text (key f)) ∷ behind f
 keyed (Sort n) = refl
+keyed (Const c) = refl
 keyed (Pred n sorts rule) = refl
 keyed (Clause n vars literals) = refl
 keyed (Op n params) = refl
 keyed (Need l) = refl
 keyed (Add p args) = refl
 keyed (Del p args) = refl
-keyed (Bound n p vars counted most) = refl
+keyed (Bound n p vars counted most pick) = refl
 keyed (Drops p args) = refl
 keyed (Elem sort elements) = refl
 keyed (Base p elements) = refl
@@ -190,6 +200,8 @@ same_facts = same_applied name_alone IsUnmixed-name_alone IsOpen-name_alone same
 same_behind : (f g : Form) → key f ≡ key g → behind f ≡ behind g → f ≡ g
 same_behind (Sort n) (Sort m) k e = ap Sort (same_name n m (cc))
 same_behind (Sort n) _ k e = absurd (cc)
+same_behind (Const v) (Const w) k e = ap Const (same_typed v w e)
+same_behind (Const v) _ k e = absurd (cc)
 same_behind (Pred n sorts rule) (Pred m others other) k e =
     let tail : listed name_alone sorts ++ rule_word rule ∷ [] ≡ listed name_alone others ++ rule_word other ∷ [] = cc in
     let cut = names_same sorts others (rule_word rule ∷ []) (rule_word other ∷ []) tail in
@@ -217,17 +229,18 @@ same_behind (Add p args) (Add q others) k e = let same = same_places p q args ot
 same_behind (Add p args) _ k e = absurd (cc)
 same_behind (Del p args) (Del q others) k e = let same = same_places p q args others e in cc (same.0, same.1)
 same_behind (Del p args) _ k e = absurd (cc)
-same_behind (Bound n p vars counted most) (Bound m q others other limit) k e =
-    let tail : listed name_alone vars ++ text (codes "counts") ∷ name counted ∷ text (codes "most") ∷ number most ∷ [] ≡ listed name_alone others ++ text (codes "counts") ∷ name other ∷ text (codes "most") ∷ number limit ∷ [] = cc in
-    let cut = names_same vars others (text (codes "counts") ∷ name counted ∷ text (codes "most") ∷ number most ∷ []) (text (codes "counts") ∷ name other ∷ text (codes "most") ∷ number limit ∷ []) tail in
+same_behind (Bound n p vars counted most pick) (Bound m q others other limit picked) k e =
+    let tail : listed name_alone vars ++ text (codes "counts") ∷ name counted ∷ text (codes "most") ∷ number most ∷ pick_words pick ≡ listed name_alone others ++ text (codes "counts") ∷ name other ∷ text (codes "most") ∷ number limit ∷ pick_words picked = cc in
+    let cut = names_same vars others (text (codes "counts") ∷ name counted ∷ text (codes "most") ∷ number most ∷ pick_words pick) (text (codes "counts") ∷ name other ∷ text (codes "most") ∷ number limit ∷ pick_words picked) tail in
     let names = same_name n m (cc) in
     let predicates = same_name p q (cc) in
     let lists = cut.0 in
     let later = cut.1 in
     let counts = same_name counted other (cc) in
     let limits : most ≡ limit = cc in
+    let picks = same_pick pick picked (cc (later)) in
     cc
-same_behind (Bound n p vars counted most) _ k e = absurd (cc)
+same_behind (Bound n p vars counted most pick) _ k e = absurd (cc)
 same_behind (Drops p args) (Drops q others) k e = let same = same_places p q args others e in cc (same.0, same.1)
 same_behind (Drops p args) _ k e = absurd (cc)
 same_behind (Elem n elements) (Elem m others) k e =

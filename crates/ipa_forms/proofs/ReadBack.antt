@@ -12,6 +12,8 @@ use Rattle.ipa_spec.specs.Names.{is_name, begins_with_letter}
 use Rattle.ipa_spec.specs.declared.names.Name.{Name}
 use Rattle.ipa_spec.specs.declared.predicates.Rule.{Rule}
 use Rattle.ipa_spec.specs.declared.predicates.Rule.TheVariants.{AddWins, RemoveWins}
+use Rattle.ipa_spec.specs.declared.bounds.Pick.{Pick}
+use Rattle.ipa_spec.specs.declared.bounds.Pick.TheVariants.{Greatest, Youngest}
 use Rattle.ipa_text.specs.Tokens.{is_run, text_of, IsCutInto, IsOfKind}
 use Rattle.ipa_text.specs.Words.{is_word, is_number, number_of, starts_with_letter}
 use Rattle.ipa_text.specs.Spellings.{Spelling, bytes_of, tokens_from, AreReadableAfter}
@@ -19,13 +21,13 @@ use Rattle.ipa_text.specs.declared.tokens.Token.{Token}
 use Rattle.ipa_text.specs.declared.tokens.TokenKind.{TokenKind}
 use Rattle.ipa_text.specs.declared.tokens.TokenKind.TheVariants as kinds
 use Rattle.ipa_forms.specs.Words.{Word, text, number, sign, word_of}
-use Rattle.ipa_forms.specs.Forms.{name, name_alone, place, typed_name, listed, literal, alternatives, rule_word, words_of, HasForm, HasMembers}
-use Rattle.ipa_forms.specs.Layout.{name_text, place_text, typed_text, listed_text, applied_text, literal_text, rule_text, line_of, HasNumbers}
+use Rattle.ipa_forms.specs.Forms.{name, name_alone, place, typed_name, listed, literal, alternatives, rule_word, pick_words, words_of, HasForm, HasMembers}
+use Rattle.ipa_forms.specs.Layout.{name_text, place_text, typed_text, listed_text, applied_text, literal_text, rule_text, pick_text, line_of, HasNumbers}
 use Rattle.ipa_forms.specs.declared.forms.Typed.{Typed}
 use Rattle.ipa_forms.specs.declared.forms.LiteralForm.{LiteralForm}
 use Rattle.ipa_forms.specs.declared.forms.LiteralForm.TheVariants.{Holds, Fails, Same, Differ}
 use Rattle.ipa_forms.specs.declared.forms.Form.{Form}
-use Rattle.ipa_forms.specs.declared.forms.Form.TheVariants.{Sort, Pred, Clause, Op, Need, Add, Del, Bound, Drops, Elem, Base, Replicas, Session, Do, Show}
+use Rattle.ipa_forms.specs.declared.forms.Form.TheVariants.{Sort, Const, Pred, Clause, Op, Need, Add, Del, Bound, Drops, Elem, Base, Replicas, Session, Do, Show}
 
 abbrev pub said : Spelling → Word
 said s = word_of s.kind s.text
@@ -105,11 +107,11 @@ number_parts digits n e = go (is_number digits) refl e
 abbrev pub IsPrinted : Type 0
 IsPrinted = (n : ℕ) → n < 2 ^ 32 → number_of (decimal n) ≡ Some n
 
-number_front : IsPrinted → (n : ℕ) → n < 2 ^ 32 → Reads false (number n ∷ []) (decimal n)
-number_front printed n h =
+number_front : IsPrinted → (n : ℕ) → n < 2 ^ 32 → (ws : List Word) (t : List ℕ) → Reads true ws t → Reads false (number n ∷ ws) (decimal n ++ t)
+number_front printed n h ws t r =
     let parts = number_parts (decimal n) n (printed n h) in
-    let r = token false 0 kinds.Number (decimal n) [] [] parts.0 (λ after run. absurd (false≢true after)) (at_end true) in
-    moved false (number n ∷ []) (number (digits_value 10 (decimal n)) ∷ []) (decimal n) (decimal n ++ []) (ap (λ k. number k ∷ []) (sym parts.1)) (sym (append-nil (decimal n))) r
+    let all = token false 0 kinds.Number (decimal n) ws t parts.0 (λ after run. absurd (false≢true after)) r in
+    moved false (number n ∷ ws) (number (digits_value 10 (decimal n)) ∷ ws) (decimal n ++ t) (decimal n ++ t) (ap (λ k. number k ∷ ws) (sym parts.1)) refl all
 
 -- where a part may end with a run
 abbrev pub Prints : {A : Type 0} → (A → List Word) → (A → List ℕ) → Type 0
@@ -229,6 +231,14 @@ reads_rule : (rule : Rule) → Reads false (rule_word rule ∷ []) (rule_text ru
 reads_rule AddWins = word_front (codes "addwins") [] [] refl (at_end true)
 reads_rule RemoveWins = word_front (codes "remwins") [] [] refl (at_end true)
 
+reads_pick : (pick : Pick) → Reads true (pick_words pick) (pick_text pick)
+reads_pick Greatest = at_end true
+reads_pick Youngest = spaced true _ _ (omega arith) (word_front (codes "youngest") [] [] refl (at_end true))
+
+-- a number at the end of the line
+number_last : IsPrinted → (n : ℕ) → n < 2 ^ 32 → Reads false (number n ∷ []) (decimal n)
+number_last printed n h = whole false (number n ∷ []) (decimal n) (number_front printed n h [] [] (at_end true))
+
 call_of_names : (bytes : List ℕ) (n : Name) (xs : List Name) → is_word bytes ≡ true → Reads false (text bytes ∷ name n ∷ listed name_alone xs) (bytes ++ (32 ∷ applied_text name_text n xs))
 call_of_names bytes n xs is =
     keyworded bytes _ _ is (omega arith) (whole false (name n ∷ listed name_alone xs) (applied_text name_text n xs) (names_applied n xs [] [] (at_end false)))
@@ -237,8 +247,8 @@ call_of_places : (bytes : List ℕ) (n : Name) (xs : List (Option Name)) → is_
 call_of_places bytes n xs is =
     keyworded bytes _ _ is (omega arith) (whole false (name n ∷ listed place xs) (applied_text place_text n xs) (places_applied n xs [] [] (at_end false)))
 
-regroup : (a b c d e f g h : List ℕ) → ((((((a ++ b) ++ c) ++ d) ++ e) ++ f) ++ g) ++ h ≡ a ++ (b ++ (c ++ (d ++ (e ++ (f ++ (g ++ h))))))
-regroup a b c d e f g h = simp append_assoc
+regroup : (a b c d e f g h i : List ℕ) → (((((((a ++ b) ++ c) ++ d) ++ e) ++ f) ++ g) ++ h) ++ i ≡ a ++ (b ++ (c ++ (d ++ (e ++ (f ++ (g ++ (h ++ i)))))))
+regroup a b c d e f g h i = simp append_assoc
 
 a_word : (l : LiteralForm) → 0 < length (literal l)
 a_word l = omega (arith, HasWord-literal l [], ap length (append-nil (literal l)))
@@ -247,6 +257,10 @@ a_word l = omega (arith, HasWord-literal l [], ap length (append-nil (literal l)
 pub reads_form : IsPrinted → (f : Form) → HasMembers f → HasNumbers f → Reads false (words_of f) (line_of f)
 reads_form printed (Sort n) members numbers =
     keyworded (codes "sort") (name n ∷ []) (name_text n) refl (omega arith) (whole false (name n ∷ []) (name_text n) (name_front n [] [] (at_end true)))
+reads_form printed (Const c) members numbers =
+    let sort = whole false (name c.sort ∷ []) (name_text c.sort) (name_front c.sort [] [] (at_end true)) in
+    let colon = sign_front true kinds.Colon (codes ":") _ _ refl refl (spaced false _ _ (omega arith) sort) in
+    moved false _ _ _ _ refl (simp append_assoc) (keyworded (codes "const") _ _ refl (omega arith) (name_front c.name _ _ colon))
 reads_form printed (Pred n sorts rule) members numbers =
     let end = spaced false (rule_word rule ∷ []) (rule_text rule) (omega arith) (reads_rule rule) in
     moved false _ _ _ _ refl (simp append_assoc) (keyworded (codes "pred") _ _ refl (omega arith) (names_applied n sorts _ _ end))
@@ -260,20 +274,20 @@ reads_form printed (Need l) members numbers =
     keyworded (codes "need") _ _ refl (a_word l) (whole false (literal l) (literal_text l) (Prints-literal l [] [] (at_end true)))
 reads_form printed (Add p args) members numbers = call_of_places (codes "add") p args refl
 reads_form printed (Del p args) members numbers = call_of_places (codes "del") p args refl
-reads_form printed (Bound n p vars counted most) members numbers =
-    let limit = keyworded (codes "most") _ _ refl (omega arith) (number_front printed most numbers) in
+reads_form printed (Bound n p vars counted most pick) members numbers =
+    let limit = keyworded (codes "most") _ _ refl (omega arith) (number_front printed most numbers _ _ (reads_pick pick)) in
     let counts = name_front counted _ _ (spaced true _ _ (omega arith) limit) in
     let end = spaced false _ _ (omega arith) (keyworded (codes "counts") _ _ refl (omega arith) counts) in
     let predicate = spaced true _ _ (omega arith) (names_applied p vars _ _ end) in
-    let grouped = regroup (codes "bound ") (name_text n) (codes " ") (applied_text name_text p vars) (codes " counts ") (name_text counted) (codes " most ") (decimal most) in
+    let grouped = regroup (codes "bound ") (name_text n) (codes " ") (applied_text name_text p vars) (codes " counts ") (name_text counted) (codes " most ") (decimal most) (pick_text pick) in
     moved false _ _ _ _ refl grouped (keyworded (codes "bound") _ _ refl (omega arith) (name_front n _ _ predicate))
 reads_form printed (Drops p args) members numbers = call_of_places (codes "drops") p args refl
 reads_form printed (Elem n elements) members numbers =
     let end = whole true (map name elements) (flat_map (λ m. codes " " ++ name_text m) elements) (reads_elements elements [] [] (at_end true)) in
     keyworded (codes "elem") _ _ refl (omega arith) (name_front n _ _ end)
 reads_form printed (Base p elements) members numbers = call_of_names (codes "base") p elements refl
-reads_form printed (Replicas k) members numbers = keyworded (codes "replicas") _ _ refl (omega arith) (number_front printed k numbers)
-reads_form printed (Session k) members numbers = keyworded (codes "session") _ _ refl (omega arith) (number_front printed k numbers)
+reads_form printed (Replicas k) members numbers = keyworded (codes "replicas") _ _ refl (omega arith) (number_last printed k numbers)
+reads_form printed (Session k) members numbers = keyworded (codes "session") _ _ refl (omega arith) (number_last printed k numbers)
 reads_form printed (Do o elements) members numbers = call_of_names (codes "do") o elements refl
 reads_form printed (Show p ps) members numbers = call_of_places (codes "show") p ps refl
 

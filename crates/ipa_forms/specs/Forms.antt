@@ -9,6 +9,7 @@
 --   typed vs                 variables with their sorts in parentheses
 --   literal l                the words of a literal
 --   alternatives ls          literals with `or` between them
+--   pick_words p             what ends a `bound` line: nothing where the greatest fact is picked
 --   words_of form            the words of a form
 --   HasMembers form          a clause has one literal or more, and so has `elem` elements
 --   IsSaid words form        these words say the form
@@ -20,6 +21,8 @@ use Rattle.std.specs.Str.{bytes_eq}
 use Rattle.ipa_spec.specs.declared.names.Name.{Name}
 use Rattle.ipa_spec.specs.declared.predicates.Rule.{Rule}
 use Rattle.ipa_spec.specs.declared.predicates.Rule.TheVariants.{AddWins, RemoveWins}
+use Rattle.ipa_spec.specs.declared.bounds.Pick.{Pick}
+use Rattle.ipa_spec.specs.declared.bounds.Pick.TheVariants.{Greatest, Youngest}
 use Rattle.ipa_text.specs.declared.tokens.Token.{Token}
 use Rattle.ipa_text.specs.declared.tokens.TokenKind.TheVariants.{Open, Close, Comma, Colon, Star, Equal, Unequal}
 use Rattle.ipa_forms.specs.Words.{Word, text, number, sign, words_in}
@@ -28,7 +31,7 @@ use Rattle.ipa_forms.specs.declared.forms.AtomForm.{AtomForm}
 use Rattle.ipa_forms.specs.declared.forms.LiteralForm.{LiteralForm}
 use Rattle.ipa_forms.specs.declared.forms.LiteralForm.TheVariants.{Holds, Fails, Same, Differ}
 use Rattle.ipa_forms.specs.declared.forms.Form.{Form}
-use Rattle.ipa_forms.specs.declared.forms.Form.TheVariants.{Sort, Pred, Clause, Op, Need, Add, Del, Bound, Drops, Elem, Base, Replicas, Session, Do, Show}
+use Rattle.ipa_forms.specs.declared.forms.Form.TheVariants.{Sort, Const, Pred, Clause, Op, Need, Add, Del, Bound, Drops, Elem, Base, Replicas, Session, Do, Show}
 
 abbrev pub name : Name → Word
 name n = text (take n.len n.bytes)
@@ -74,17 +77,22 @@ abbrev pub rule_word : Rule → Word
 rule_word AddWins = text (codes "addwins")
 rule_word RemoveWins = text (codes "remwins")
 
+abbrev pub pick_words : Pick → List Word
+pick_words Greatest = []
+pick_words Youngest = text (codes "youngest") ∷ []
+
 abbrev pub words_of : Form → List Word
 words_of (Sort n) = text (codes "sort") ∷ name n ∷ []
+words_of (Const c) = text (codes "const") ∷ typed_name c
 words_of (Pred n sorts rule) = text (codes "pred") ∷ name n ∷ names sorts ++ rule_word rule ∷ []
 words_of (Clause n vars literals) = text (codes "clause") ∷ name n ∷ typed vars ++ sign Colon ∷ alternatives literals
 words_of (Op n params) = text (codes "op") ∷ name n ∷ typed params
 words_of (Need l) = text (codes "need") ∷ literal l
 words_of (Add p args) = text (codes "add") ∷ name p ∷ places args
 words_of (Del p args) = text (codes "del") ∷ name p ∷ places args
-words_of (Bound n p vars counted most) =
+words_of (Bound n p vars counted most pick) =
     text (codes "bound") ∷ name n ∷ name p ∷ names vars
-    ++ text (codes "counts") ∷ name counted ∷ text (codes "most") ∷ number most ∷ []
+    ++ text (codes "counts") ∷ name counted ∷ text (codes "most") ∷ number most ∷ pick_words pick
 words_of (Drops p args) = text (codes "drops") ∷ name p ∷ places args
 words_of (Elem sort elements) = text (codes "elem") ∷ name sort ∷ map name elements
 words_of (Base p elements) = text (codes "base") ∷ name p ∷ names elements

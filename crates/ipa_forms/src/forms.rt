@@ -1,10 +1,10 @@
 //! The forms of a document's lines: what a line says, by names, before any name is looked up.
-use ipa_spec::{List, Name, Rule};
+use ipa_spec::{List, Name, Pick, Rule};
 
-/// A variable or parameter with the name of its sort.
+/// A variable, a parameter or a constant with the name of its sort.
 #[derive(Clone, Copy, PartialEq, Eq)]
 pub struct Typed {
-    /// The variable's name.
+    /// Its own name.
     pub name: Name,
     /// The name of its sort.
     pub sort: Name,
@@ -15,7 +15,7 @@ pub struct Typed {
 pub struct AtomForm {
     /// The predicate's name.
     pub predicate: Name,
-    /// The names of variables in its places.
+    /// The names in its places, of variables or of constants.
     pub args: List<Name>,
 }
 
@@ -38,6 +38,10 @@ pub enum Form {
     /// `sort NAME`
     Sort {
         name: Name,
+    },
+    /// `const NAME: SORT`
+    Const {
+        constant: Typed,
     },
     /// `pred NAME(SORT,..) addwins` or `remwins`
     Pred {
@@ -70,13 +74,14 @@ pub enum Form {
         predicate: Name,
         args: List<Option<Name>>,
     },
-    /// `bound NAME PRED(VAR,..) counts VAR most NUMBER`
+    /// `bound NAME PRED(VAR,..) counts VAR most NUMBER`, and `youngest` behind it where the youngest fact is picked
     Bound {
         name: Name,
         predicate: Name,
         vars: List<Name>,
         counted: Name,
         most: u32,
+        pick: Pick,
     },
     /// `drops PRED(A,..)`
     Drops {

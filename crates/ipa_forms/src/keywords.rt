@@ -8,6 +8,7 @@ ghost use Rattle.ipa_forms.specs.Lines.{keyword_text};
 #[derive(Clone, Copy)]
 pub(crate) enum Keyword {
     Sort,
+    Const,
     Pred,
     Clause,
     Op,
@@ -24,8 +25,9 @@ pub(crate) enum Keyword {
     Show,
 }
 
-const KEYWORDS: [Keyword; 15] = [
+const KEYWORDS: [Keyword; 16] = [
     Keyword::Sort,
+    Keyword::Const,
     Keyword::Pred,
     Keyword::Clause,
     Keyword::Op,
@@ -49,6 +51,7 @@ impl Keyword {
     {
         match self {
             Keyword::Sort => "sort",
+            Keyword::Const => "const",
             Keyword::Pred => "pred",
             Keyword::Clause => "clause",
             Keyword::Op => "op",

@@ -21,4 +21,6 @@ pub use form_laws::{one_form, reads_back};
 pub use forms::{AtomForm, Form, LiteralForm, Typed};
 pub use printing::parts::{Printed, write_applied, write_joined, write_list, write_name};
 pub use printing::write_form;
+pub use reading::lists::{Member, read_list};
+pub use reading::words::{Words, take_name, take_number, take_text};
 pub use reading::{is_existential, read_form};

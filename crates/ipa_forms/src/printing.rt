@@ -2,13 +2,13 @@
 ghost use Rattle.std.specs.Prelude.{◌≡◌, ◌++◌, codes, OnOk};
 ghost use Rattle.std.specs.Fmt.{decimal};
 ghost use Rattle.std.specs.List.{flat_map, join_by};
-ghost use Rattle.ipa_forms.specs.Layout.{applied_text, line_of, literal_text, name_text, rule_text, text_of, typed_text};
+ghost use Rattle.ipa_forms.specs.Layout.{applied_text, line_of, literal_text, name_text, pick_text, rule_text, text_of, typed_text};
 
 pub(crate) mod parts;
 
 use crate::forms::{Form, LiteralForm, Typed};
 use crate::printing::parts::{Printed, write_applied, write_joined, write_name};
-use ipa_spec::{List, Name, Rule};
+use ipa_spec::{List, Name, Pick, Rule};
 use ipa_text::Page;
 use std::alloc::AllocError;
 
@@ -81,13 +81,25 @@ fn write_bound_head(
     write_applied(page, predicate, vars)
 }
 
-/// Prints what ends the line of a bound: the variable that is counted, and the most that there may be.
-fn write_limit(page: &mut Page, counted: Name, most: u32) -> Result<(), AllocError>
-    ensures { OnOk result (page.new ≡ page.old ++ (codes " counts " ++ name_text counted ++ codes " most " ++ decimal most)) }
+/// Prints what is picked: nothing for the greatest fact.
+fn write_pick(page: &mut Page, pick: Pick) -> Result<(), AllocError>
+    ensures { OnOk result (page.new ≡ page.old ++ pick_text pick) }
+{
+    match pick {
+        Pick::Greatest => Ok(()),
+        Pick::Youngest => page.text(" youngest"),
+    }
+}
+
+/// Prints what ends the line of a bound: the variable that is counted, the most that there may be, and what is
+/// picked.
+fn write_limit(page: &mut Page, counted: Name, most: u32, pick: Pick) -> Result<(), AllocError>
+    ensures { OnOk result (page.new ≡ page.old ++ (codes " counts " ++ name_text counted ++ codes " most " ++ decimal most ++ pick_text pick)) }
 {
     page.text(" counts ")?;
     write_name(page, counted)?;
-    write_count(page, " most ", most)
+    write_count(page, " most ", most)?;
+    write_pick(page, pick)
 }
 
 /// Prints names, each behind a space.
@@ -118,6 +130,16 @@ fn write_sort(page: &mut Page, name: Name) -> Result<(), AllocError>
     write_name(page, name)
 }
 
+/// Prints the line of a constant.
+fn write_const(page: &mut Page, constant: Typed) -> Result<(), AllocError>
+    ensures { OnOk result (page.new ≡ page.old ++ (codes "const " ++ name_text constant.name ++ codes ": " ++ name_text constant.sort)) }
+{
+    page.text("const ")?;
+    write_name(page, constant.name)?;
+    page.text(": ")?;
+    write_name(page, constant.sort)
+}
+
 /// Prints the line of a need.
 fn write_need(page: &mut Page, literal: &LiteralForm) -> Result<(), AllocError>
     ensures { OnOk result (page.new ≡ page.old ++ (codes "need " ++ literal_text literal.now)) }
@@ -132,6 +154,7 @@ fn write_line(page: &mut Page, form: &Form) -> Result<(), AllocError>
 {
     match form {
         Form::Sort { name } => write_sort(page, *name),
+        Form::Const { constant } => write_const(page, *constant),
         Form::Pred { name, sorts, rule } => write_pred(page, *name, sorts, *rule),
         Form::Clause {
             name,
@@ -148,9 +171,10 @@ fn write_line(page: &mut Page, form: &Form) -> Result<(), AllocError>
             vars,
             counted,
             most,
+            pick,
         } => {
             write_bound_head(page, *name, *predicate, vars)?;
-            write_limit(page, *counted, *most)
+            write_limit(page, *counted, *most, *pick)
         }
         Form::Drops { predicate, args } => write_call(page, "drops ", *predicate, args),
         Form::Elem { sort, elements } => write_elem(page, *sort, elements),

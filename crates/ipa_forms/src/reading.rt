@@ -8,10 +8,10 @@ ghost use Rattle.ipa_forms.specs.Parts.{IsRead};
 ghost use Rattle.ipa_forms.specs.declared.forms.Form.{Form};
 
 mod lines;
-mod lists;
+pub(crate) mod lists;
 mod members;
 mod separators;
-mod words;
+pub(crate) mod words;
 
 use crate::forms::Form;
 use crate::keywords::{Keyword, keyword_of};

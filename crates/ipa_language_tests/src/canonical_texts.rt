@@ -12,8 +12,10 @@ fn is_printed_as(alloc: Global, sample: Sample, other: Sample) -> Result<bool, F
 }
 
 #[test]
-fn prints_the_tournament_as_it_stands(rt: HostRuntime) -> Result<(), Fail> {
-    assert!(rt; is_printed_as(rt.alloc(), Sample::Tournament, Sample::Tournament)?);
+fn prints_canonical_texts_as_they_stand(rt: HostRuntime) -> Result<(), Fail> {
+    for sample in [Sample::Tournament, Sample::Admins, Sample::Youngest] {
+        assert!(rt; is_printed_as(rt.alloc(), sample, sample)?, "{sample:?}");
+    }
     Ok(())
 }
 

@@ -7,6 +7,7 @@ use std::test::Fail;
 /// A line of each form, and behind it its canonical line. Before each stands a bar.
 fn formed() -> &'static str {
     "|sort  player>sort player
+|const root :user>const root: user
 |pred enrolled ( player , cup )addwins>pred enrolled(player,cup) addwins
 |pred over() remwins>pred over() remwins
 |clause c1(p:player,t : cup):not r(p,t)or q(p)>clause c1(p:player,t:cup): not r(p,t) or q(p)
@@ -17,6 +18,7 @@ fn formed() -> &'static str {
 |add enrolled(p,*)>add enrolled(p,*)
 |del inmatch( * , p , t )>del inmatch(*,p,t)
 |bound cap enrolled(p,t)counts p most 3>bound cap enrolled(p,t) counts p most 3
+|bound b r(x) counts x most 1  youngest>bound b r(x) counts x most 1 youngest
 |drops inmatch(p,*,t)>drops inmatch(p,*,t)
 |elem cup k1  k2 most>elem cup k1 k2 most
 |base enrolled(ann,open)>base enrolled(ann,open)
@@ -53,6 +55,8 @@ add r(x,)
 del r x
 bound b r(*) counts x most 3
 bound b r(x) counts x most many
+bound b r(x) counts x most 3 greatest
+const c: s t
 drops r
 elem s
 elem s a,b
@@ -93,7 +97,7 @@ fn reads_and_prints_each_form(rt: HostRuntime) -> Result<(), Fail> {
         assert!(rt; is_true(rt.alloc(), row)?, "{row}");
         rows = rows.wrapping_add(1);
     }
-    assert_eq!(rt; rows, 19);
+    assert_eq!(rt; rows, 21);
     Ok(())
 }
 

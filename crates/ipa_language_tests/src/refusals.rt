@@ -45,7 +45,7 @@ fn refuses_each_kind_at_its_line(rt: HostRuntime) -> Result<(), Fail> {
         assert!(rt; is_true(rt.alloc(), row)?, "{row}");
         rows = rows.wrapping_add(1);
     }
-    assert_eq!(rt; rows, 59);
+    assert_eq!(rt; rows, 68);
     Ok(())
 }
 

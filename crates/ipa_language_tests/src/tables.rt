@@ -146,6 +146,31 @@ sort !
 > line 6: limit 6 5
 |op f(a:s,b:s,c:s,d:s,e:s)
 > line 6: limit 8 5
+|const a s
+> line 6: line
+|const a: u
+> line 6: unknown
+|const a: s
+const a: t
+> line 7: duplicate
+|const a: t
+clause k(): p(a)
+> line 7: sort
+|const a: s
+const b: t
+clause k(): a = b
+> line 8: sort
+|const a: s
+elem s b a
+> line 7: duplicate
+|elem s b
+const a: s
+> line 7: order
+|const a: s
+bound b p(x) counts a most 1
+> line 7: free variable
+|bound b p(x) counts x most 1 oldest
+> line 6: line
 "
 }
 
@@ -177,6 +202,19 @@ pred p(s) addwins
 bound p p(x) counts x most 65535
 drops p(*)
 op o(a:s,b:s,c:s,d:s)
+|sort s
+sort t
+const x: t
+const y: s
+pred p(s) addwins
+clause c(x:s): p(x) or x != y or not p(y)
+op o(x:s)
+need p(x)
+add p(y)
+bound b p(x) counts x most 1 youngest
+drops p(y)
+elem s x
+elem t y
 |replicas 8
 session 8
 session 1
@@ -193,7 +231,7 @@ base p(a)
 pub(super) type Repeated = (&'static str, u32, &'static str);
 
 /// How often lines may stand, and the refusal where they stand once more.
-pub(super) fn limits() -> [Repeated; 11] {
+pub(super) fn limits() -> [Repeated; 13] {
     [
         ("*sort s#", 8, " line 9: limit 1 9\n"),
         ("*pred p#() addwins", 32, " line 33: limit 2 33\n"),
@@ -219,6 +257,12 @@ pub(super) fn limits() -> [Repeated; 11] {
             " line 14: limit 11 9\n",
         ),
         ("sort s\n*elem s e#", 256, " line 258: limit 14 257\n"),
+        ("sort s\n*const c#: s", 4, " line 6: limit 19 5\n"),
+        (
+            "sort s\nconst c: s\n*elem s e#",
+            255,
+            " line 258: limit 14 257\n",
+        ),
         ("*session 1", 16, " line 17: limit 16 17\n"),
         (
             "pred p() addwins\nsession 1\n*show p()",

@@ -2,13 +2,14 @@
 --
 --   specification_faultless   the specification that is declared has no fault
 use Rattle.std.proofs.Common.{◌≡◌, ℕ, ◌≤◌, Bool, true, false, cond, not, ◌&&◌, ◌||◌, ◌==◌, ltb, leb, List, [], ◌∷◌, length, map, take, drop, Option, Some, None, refl, sym, ap, subst, ◌∙◌, suc, arith}
-use Rattle.std.specs.List.{slice_get, slice_index_or, list_any, find}
+use Rattle.std.specs.List.{range_with_len, slice_get, slice_index_or, list_any, find}
 use Rattle.std.specs.Option.{option_map, option_map_or}
 use Rattle.std.proofs.lemmas.Bool.{or_parts, or_from, and_from, le-leb, not_from_true, not-false, lt-leb, le-ltb}
 use Rattle.std.proofs.lemmas.List.{length-map}
 use Rattle.ipa_spec.specs.FoundLaws.{list_any-false, none_of, map_at}
 use Rattle.ipa_spec.specs.Actions.{sorts_of_vars, place_sorts}
-use Rattle.ipa_spec.specs.Limits.{above, youngest_count, first_there, limits_passed, first_limit, fault_of}
+use Rattle.ipa_spec.specs.Limits.{above, constant_counts, first_there, limits_passed, first_limit, fault_of}
+use Rattle.ipa_spec.specs.Constants.{constant_count}
 use Rattle.ipa_spec.specs.Faults as numbered
 use Rattle.ipa_spec.specs.Faults.{same_name, has_repeat, specification_has}
 use Rattle.ipa_spec.specs.declared.faults.FaultKind.{FaultKind}
@@ -17,10 +18,10 @@ use Rattle.ipa_spec.specs.declared.faults.SpecFault.TheVariants as fault
 use Rattle.ipa_spec.specs.declared.names.Name.{Name}
 use Rattle.ipa_spec.specs.declared.predicates.Predicate.{Predicate}
 use Rattle.ipa_names.specs.Naming.{is_among, number_or_count}
-use Rattle.ipa_names.specs.Scopes.{predicate_named, places_of, typed_by_places, bound_variables}
+use Rattle.ipa_names.specs.Scopes.{predicate_named, places_of, with_constants, typed_by_places, bound_variables}
 use Rattle.ipa_names.specs.Flaws.{use_has, sort_has, list_has, variables_have, literal_has, effect_has, arity_named, counted_has}
-use Rattle.ipa_names.specs.Meaning.{three, predicate_number, sort_number, predicate_of, var_of, literal_of, clause_of, effect_of, operation_of, three_names, bound_of, specification_of}
-use Rattle.ipa_names.specs.Soundness.{IsSound, IsSoundPredicate, IsSoundClause, IsSoundOperation, IsSoundBound}
+use Rattle.ipa_names.specs.Meaning.{three, predicate_number, sort_number, predicate_of, constant_of, var_of, literal_of, clause_of, effect_of, operation_of, three_names, bound_of, specification_of}
+use Rattle.ipa_names.specs.Soundness.{IsSound, IsSoundConstant, IsSoundPredicate, IsSoundClause, IsSoundOperation, IsSoundBound}
 use Rattle.ipa_names.specs.declared.flaws.Flaw.{Flaw}
 use Rattle.ipa_names.specs.declared.flaws.Flaw.TheVariants.{Arity, UnknownName, Duplicate, FreeVariable}
 use Rattle.ipa_forms.specs.declared.forms.Typed.{Typed}
@@ -32,6 +33,8 @@ use Rattle.ipa_names.specs.declared.declared.OperationLines.{OperationLines}
 use Rattle.ipa_names.specs.declared.declared.BoundLines.{BoundLines}
 use Rattle.ipa_names.specs.declared.declared.Declared.{Declared}
 use Rattle.ipa_names.specs.CountLaws.{there_none, no_fault}
+use Rattle.ipa_names.specs.ConstantLaws.{numbered_few}
+use Rattle.ipa_names.specs.FilterLaws.{length-filter_mapped}
 use Rattle.ipa_names.specs.GrowthLaws.{known_use}
 use Rattle.ipa_names.specs.ListLaws.{any_weaken, any-map}
 use Rattle.ipa_names.specs.SoundLaws.{as_many, bound_uses}
@@ -47,6 +50,14 @@ module _ (d : Declared) (h : IsSound d) where
   sort_below : (sort : Name) → sort_has UnknownName d sort ≡ false → leb (length d.sorts) (sort_number d sort) ≡ false
   sort_below sort e = lt-leb (length d.sorts) (sort_number d sort) (number_below d.sorts sort (not-false (is_among d.sorts sort) e))
 
+  constant_faultless : (c : Typed) → IsSoundConstant d c → (k : FaultKind) → numbered.constant_has k (specification_of d) (constant_of d c) ≡ false
+  constant_faultless c s kind.UnknownName = sort_below c.sort (s.flawless UnknownName)
+  constant_faultless c s kind.Arity = refl
+  constant_faultless c s kind.SortMismatch = refl
+  constant_faultless c s kind.Duplicate = refl
+  constant_faultless c s kind.WildAdd = refl
+  constant_faultless c s kind.FreeVariable = refl
+
   variables_faultless : (vars : List Typed) → ((flaw : Flaw) → variables_have flaw d vars ≡ false) → (k : FaultKind) → numbered.variables_have k (specification_of d) (map (var_of d) vars) ≡ false
   variables_faultless vars flawless kind.UnknownName =
       let sorts = or_parts (list_any (λ v. sort_has UnknownName d v.sort) vars) (list_has UnknownName (map (λ v. v.name) vars)) (flawless UnknownName) in
@@ -59,17 +70,17 @@ module _ (d : Declared) (h : IsSound d) where
   variables_faultless vars flawless kind.WildAdd = refl
   variables_faultless vars flawless kind.FreeVariable = refl
 
-  literals_faultless : (scope : List Typed) (ls : List LiteralForm) → ((flaw : Flaw) → list_any (literal_has flaw d scope) ls ≡ false) → (k : FaultKind) → list_any (numbered.literal_has k (specification_of d) (sorts_of_vars (map (var_of d) scope))) (map (literal_of d scope) ls) ≡ false
+  literals_faultless : (scope : List Typed) (ls : List LiteralForm) → ((flaw : Flaw) → list_any (literal_has flaw d (with_constants d scope)) ls ≡ false) → (k : FaultKind) → list_any (numbered.literal_has k (specification_of d) (sorts_of_vars (map (var_of d) scope))) (map (literal_of d scope) ls) ≡ false
   literals_faultless scope ls flawless k =
       any-map (numbered.literal_has k (specification_of d) (sorts_of_vars (map (var_of d) scope))) (literal_of d scope) ls
       ∙ none_of (λ l. numbered.literal_has k (specification_of d) (sorts_of_vars (map (var_of d) scope)) (literal_of d scope l)) ls
-      (λ n l at. literal_faultless d h scope (sorts_of_vars (map (var_of d) scope)) (scope_numbered d scope) l (λ flaw. list_any-false (literal_has flaw d scope) ls (flawless flaw) n l at) k)
+      (λ n l at. literal_faultless d h scope (sorts_of_vars (map (var_of d) scope)) (scope_numbered d scope) l (λ flaw. list_any-false (literal_has flaw d (with_constants d scope)) ls (flawless flaw) n l at) k)
 
-  effects_faultless : (scope : List Typed) (sorts : List ℕ) → IsNumbered d scope sorts → (es : List EffectLine) → ((flaw : Flaw) → list_any (effect_has flaw d scope) es ≡ false) → (k : FaultKind) → list_any (numbered.effect_has k (specification_of d) sorts) (map (effect_of d scope) es) ≡ false
+  effects_faultless : (scope : List Typed) (sorts : List ℕ) → IsNumbered d scope sorts → (es : List EffectLine) → ((flaw : Flaw) → list_any (effect_has flaw d (with_constants d scope)) es ≡ false) → (k : FaultKind) → list_any (numbered.effect_has k (specification_of d) sorts) (map (effect_of d scope) es) ≡ false
   effects_faultless scope sorts at es flawless k =
       any-map (numbered.effect_has k (specification_of d) sorts) (effect_of d scope) es
       ∙ none_of (λ a. numbered.effect_has k (specification_of d) sorts (effect_of d scope a)) es
-      (λ n a e. effect_faultless d h scope sorts at a (λ flaw. list_any-false (effect_has flaw d scope) es (flawless flaw) n a e) k)
+      (λ n a e. effect_faultless d h scope sorts at a (λ flaw. list_any-false (effect_has flaw d (with_constants d scope)) es (flawless flaw) n a e) k)
 
   clause_faultless : (c : ClauseLine) → IsSoundClause d c → (k : FaultKind) → numbered.clause_has k (specification_of d) (clause_of d c) ≡ false
   clause_faultless c s k = or_from _ _ (variables_faultless c.vars s.variables k) (literals_faultless c.vars c.literals s.literals k)
@@ -175,7 +186,7 @@ module _ (d : Declared) (h : IsSound d) where
 
   names_faultless : (k : FaultKind) → numbered.names_have k (specification_of d) ≡ false
   names_faultless kind.Duplicate =
-      or_from _ _ (or_from _ _ (or_from _ _ (or_from _ _ (or_from _ _ h.sorts.apart refl)
+      or_from _ _ (or_from _ _ (or_from _ _ (or_from _ _ (or_from _ _ h.sorts.apart (repeat-map (λ c. c.name) (constant_of d) d.constants ∙ h.constants.apart))
       (repeat-map (λ p. p.name) (predicate_of d) d.predicates ∙ h.predicates.apart))
       (repeat-map (λ c. c.name) (clause_of d) d.clauses ∙ h.clauses.apart))
       (repeat-map (λ o. o.name) (operation_of d) d.operations ∙ h.operations.apart))
@@ -189,7 +200,7 @@ module _ (d : Declared) (h : IsSound d) where
   kinds_faultless : (k : FaultKind) → specification_has k (specification_of d) ≡ false
   unfolding specification_has
   kinds_faultless k =
-      or_from _ _ (or_from _ _ (or_from _ _ (or_from _ _ (or_from _ _ (names_faultless k) refl)
+      or_from _ _ (or_from _ _ (or_from _ _ (or_from _ _ (or_from _ _ (names_faultless k) (any-map (numbered.constant_has k (specification_of d)) (constant_of d) d.constants ∙ none_of (λ c. numbered.constant_has k (specification_of d) (constant_of d c)) d.constants (λ n c e. constant_faultless c (h.constants.each.at n c e) k)))
       (any-map (numbered.predicate_has k (specification_of d)) (predicate_of d) d.predicates ∙ none_of (λ p. numbered.predicate_has k (specification_of d) (predicate_of d p)) d.predicates (λ n p e. predicate_faultless p (h.predicates.each.at n p e) k)))
       (any-map (numbered.clause_has k (specification_of d)) (clause_of d) d.clauses ∙ none_of (λ c. numbered.clause_has k (specification_of d) (clause_of d c)) d.clauses (λ n c e. clause_faultless c (h.clauses.each.at n c e) k)))
       (any-map (numbered.operation_has k (specification_of d)) (operation_of d) d.operations ∙ none_of (λ o. numbered.operation_has k (specification_of d) (operation_of d o)) d.operations (λ n o e. operation_faultless o (h.operations.each.at n o e) k)))
@@ -209,14 +220,13 @@ above_one which most count l = ap (option_map (λ found. fault.Limit which found
 above_each : {X : Type 0} (which most : ℕ) (of : X → ℕ) (xs : List X) → ((n : ℕ) (x : X) → slice_get xs n ≡ Some x → of x ≤ most) → above which most (map of xs) ≡ None
 above_each which most of xs h = ap (option_map (λ found. fault.Limit which found)) (none_mapped (λ count. ltb most count) of xs (λ n x e. le-ltb most (of x) (h n x e)))
 
--- no declared bound picks the youngest fact
-none_picks_youngest : (d : Declared) (bs : List BoundLines) → youngest_count (map (bound_of d) bs) ≡ 0
-none_picks_youngest d [] = refl
-none_picks_youngest d (b ∷ bs) = none_picks_youngest d bs
-
--- no constant is declared, and no bound that picks the youngest fact
-nothing_later : (d : Declared) → above 19 0 (0 ∷ youngest_count (map (bound_of d) d.bounds) ∷ []) ≡ None
-nothing_later d = subst (λ n. above 19 0 (0 ∷ n ∷ []) ≡ None) (sym (none_picks_youngest d d.bounds)) refl
+-- no sort has more constants than allowed
+constants_faultless : (d : Declared) → IsSound d → above 19 4 (constant_counts (specification_of d)) ≡ None
+constants_faultless d h =
+    above_each 19 4 (constant_count (specification_of d)) (range_with_len 0 (length d.sorts))
+    (λ n k e.
+    let few = numbered_few d (λ m c at. not-false (is_among d.sorts c.sort) ((h.constants.each.at m c at).flawless UnknownName)) h.constant_most k in
+    omega (arith, length-filter_mapped (λ c. c.sort == k) (constant_of d) d.constants, few))
 
 limits_faultless : (d : Declared) → IsSound d → first_there (limits_passed (specification_of d)) ≡ None
 limits_faultless d h =
@@ -234,7 +244,7 @@ limits_faultless d h =
     there_none _ _ (ap (option_map (λ found. fault.Limit 12 found)) (none_mapped (λ size. not (leb 1 size && leb size 65535)) (λ b. b.most) (map (bound_of d) d.bounds) (mapped_each (bound_of d) d.bounds (λ b. not (leb 1 b.most && leb b.most 65535) ≡ false)
     (λ n b e. not_from_true (leb 1 b.most && leb b.most 65535) (and_from (leb 1 b.most) (leb b.most 65535) (le-leb 1 b.most (h.bounds.each.at n b e).some_size) (le-leb b.most 65535 (h.bounds.each.at n b e).size)))))) (
     there_none _ _ (above_each 13 4 (λ b. length b.removes) (map (bound_of d) d.bounds) (mapped_each (bound_of d) d.bounds (λ b. length b.removes ≤ 4) (λ n b e. omega (arith, length-map b.removes (effect_of d (bound_variables d b)), (h.bounds.each.at n b e).remove_count)))) (
-    there_none _ _ (nothing_later d) refl)))))))))))))
+    there_none _ _ (constants_faultless d h) refl)))))))))))))
 
 pub specification_faultless : (d : Declared) → IsSound d → fault_of (specification_of d) ≡ None
 unfolding fault_of first_limit

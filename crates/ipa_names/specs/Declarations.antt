@@ -6,16 +6,17 @@
 use Rattle.std.specs.Prelude.{ℕ, true, false, List, [], ◌∷◌, ◌++◌, Option, fold}
 use Rattle.ipa_spec.specs.declared.names.Name.{Name}
 use Rattle.ipa_names.specs.Naming.{with_last}
+use Rattle.ipa_spec.specs.declared.bounds.Pick.{Pick}
 use Rattle.ipa_forms.specs.declared.forms.LiteralForm.{LiteralForm}
 use Rattle.ipa_forms.specs.declared.forms.Form.{Form}
-use Rattle.ipa_forms.specs.declared.forms.Form.TheVariants.{Sort, Pred, Clause, Op, Need, Add, Del, Bound, Drops}
+use Rattle.ipa_forms.specs.declared.forms.Form.TheVariants.{Sort, Const, Pred, Clause, Op, Need, Add, Del, Bound, Drops}
 use Rattle.ipa_names.specs.declared.declared.OperationLines.{OperationLines}
 use Rattle.ipa_names.specs.declared.declared.BoundLines.{BoundLines}
 use Rattle.ipa_names.specs.declared.declared.EffectLine.{EffectLine}
 use Rattle.ipa_names.specs.declared.declared.Declared.{Declared}
 
 abbrev pub nothing_declared : Declared
-nothing_declared = record { sorts = []; predicates = []; clauses = []; operations = []; bounds = [] }
+nothing_declared = record { sorts = []; constants = []; predicates = []; clauses = []; operations = []; bounds = [] }
 
 -- an operation with one more need, an operation with one more effect, and a bound with one more remove
 abbrev pub with_need : LiteralForm → OperationLines → OperationLines
@@ -35,13 +36,14 @@ abbrev pub remove_effect : Name → List (Option Name) → EffectLine
 remove_effect predicate args = record { add = false; predicate = predicate; args = args }
 
 -- a bound without further removes
-abbrev pub bound_line : Name → Name → List Name → Name → ℕ → BoundLines
-bound_line name predicate vars counted most = record {
+abbrev pub bound_line : Name → Name → List Name → Name → ℕ → Pick → BoundLines
+bound_line name predicate vars counted most pick = record {
   name = name;
   predicate = predicate;
   vars = vars;
   counted = counted;
   most = most;
+  pick = pick;
   removes = [];
 }
 
@@ -49,6 +51,7 @@ bound_line name predicate vars counted most = record {
 -- nothing here
 abbrev pub with_declaration : Declared → Form → Declared
 with_declaration d (Sort name) = record d { sorts = d.sorts ++ name ∷ [] }
+with_declaration d (Const c) = record d { constants = d.constants ++ c ∷ [] }
 with_declaration d (Pred name sorts rule) =
     record d { predicates = d.predicates ++ record { name = name; sorts = sorts; rule = rule } ∷ [] }
 with_declaration d (Clause name vars literals) =
@@ -60,8 +63,8 @@ with_declaration d (Add predicate args) =
     record d { operations = with_last (with_effect (add_effect predicate args)) d.operations }
 with_declaration d (Del predicate args) =
     record d { operations = with_last (with_effect (remove_effect predicate args)) d.operations }
-with_declaration d (Bound name predicate vars counted most) =
-    record d { bounds = d.bounds ++ bound_line name predicate vars counted most ∷ [] }
+with_declaration d (Bound name predicate vars counted most pick) =
+    record d { bounds = d.bounds ++ bound_line name predicate vars counted most pick ∷ [] }
 with_declaration d (Drops predicate args) =
     record d { bounds = with_last (with_remove (remove_effect predicate args)) d.bounds }
 with_declaration d _ = d

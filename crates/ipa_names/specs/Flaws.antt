@@ -13,7 +13,7 @@ use Rattle.ipa_spec.specs.Faults.{same_name, has_repeat}
 use Rattle.ipa_spec.specs.declared.names.Name.{Name}
 use Rattle.ipa_names.specs.Naming.{is_among}
 use Rattle.ipa_names.specs.Declarations.{add_effect, remove_effect}
-use Rattle.ipa_names.specs.Scopes.{predicate_named, places_of, sort_of_variable, operation_scope, bound_scope}
+use Rattle.ipa_names.specs.Scopes.{predicate_named, places_of, sort_of_variable, with_constants, operation_scope, bound_scope}
 use Rattle.ipa_names.specs.declared.flaws.Flaw.{Flaw}
 use Rattle.ipa_names.specs.declared.flaws.Flaw.TheVariants.{Arity, SortMismatch, UnknownName, Duplicate, WildAdd, FreeVariable}
 use Rattle.ipa_forms.specs.declared.forms.Typed.{Typed}
@@ -21,7 +21,7 @@ use Rattle.ipa_forms.specs.declared.forms.AtomForm.{AtomForm}
 use Rattle.ipa_forms.specs.declared.forms.LiteralForm.{LiteralForm}
 use Rattle.ipa_forms.specs.declared.forms.LiteralForm.TheVariants.{Holds, Fails, Same, Differ}
 use Rattle.ipa_forms.specs.declared.forms.Form.{Form}
-use Rattle.ipa_forms.specs.declared.forms.Form.TheVariants.{Sort, Pred, Clause, Op, Need, Add, Del, Bound, Drops}
+use Rattle.ipa_forms.specs.declared.forms.Form.TheVariants.{Sort, Const, Pred, Clause, Op, Need, Add, Del, Bound, Drops}
 use Rattle.ipa_names.specs.declared.declared.EffectLine.{EffectLine}
 use Rattle.ipa_names.specs.declared.declared.Declared.{Declared}
 
@@ -50,16 +50,16 @@ list_has _ names = false
 abbrev pub variables_have : Flaw → Declared → List Typed → Bool
 variables_have flaw d vars = list_any (λ v. sort_has flaw d v.sort) vars || list_has flaw (map (λ v. v.name) vars)
 
--- the variable is declared, and with another sort
+-- the variable or constant is declared, and with another sort
 abbrev pub is_elsewhere : List Typed → Name → Name → Bool
 is_elsewhere scope sort name = option_map_or (λ own. not (same_name own sort)) (sort_of_variable scope name) false
 
--- a variable in a place of a sort
+-- a variable or constant in a place of a sort
 abbrev pub place_has : Flaw → List Typed → Name × Name → Bool
 place_has SortMismatch scope (name, sort) = is_elsewhere scope sort name
 place_has _ scope (name, sort) = false
 
--- the use of a variable
+-- the use of a variable or constant
 abbrev pub variable_has : Flaw → List Typed → Name → Bool
 variable_has FreeVariable scope name = is_none (sort_of_variable scope name)
 variable_has _ scope name = false
@@ -75,7 +75,7 @@ atom_has flaw d scope a =
     || list_any (place_has flaw scope) (zip a.args (places_of d a.predicate)))
     || list_any (variable_has flaw scope) a.args
 
--- two compared variables: both are declared, and with different sorts
+-- two compared variables or constants: both are declared, and with different sorts
 abbrev pub comparison_has : Flaw → List Typed → Name → Name → Bool
 comparison_has SortMismatch scope one other =
     option_map_or (λ sort. is_elsewhere scope sort other) (sort_of_variable scope one) false
@@ -121,18 +121,22 @@ bound_has flaw d predicate vars counted =
 -- a specification line; setup lines are none
 unfoldable pub specification_line_has : Flaw → Declared → Form → Bool
 specification_line_has flaw d (Sort name) = declaration_has flaw d.sorts name
+specification_line_has flaw d (Const c) =
+    declaration_has flaw (map (λ k. k.name) d.constants) c.name || sort_has flaw d c.sort
 specification_line_has flaw d (Pred name sorts rule) =
     declaration_has flaw (map (λ p. p.name) d.predicates) name || list_any (sort_has flaw d) sorts
 specification_line_has flaw d (Clause name vars literals) =
     (declaration_has flaw (map (λ c. c.name) d.clauses) name || variables_have flaw d vars)
-    || list_any (literal_has flaw d vars) literals
+    || list_any (literal_has flaw d (with_constants d vars)) literals
 specification_line_has flaw d (Op name params) =
     declaration_has flaw (map (λ o. o.name) d.operations) name || variables_have flaw d params
-specification_line_has flaw d (Need literal) = literal_has flaw d (operation_scope d) literal
-specification_line_has flaw d (Add predicate args) = effect_has flaw d (operation_scope d) (add_effect predicate args)
+specification_line_has flaw d (Need literal) = literal_has flaw d (with_constants d (operation_scope d)) literal
+specification_line_has flaw d (Add predicate args) =
+    effect_has flaw d (with_constants d (operation_scope d)) (add_effect predicate args)
 specification_line_has flaw d (Del predicate args) =
-    effect_has flaw d (operation_scope d) (remove_effect predicate args)
-specification_line_has flaw d (Bound name predicate vars counted most) =
+    effect_has flaw d (with_constants d (operation_scope d)) (remove_effect predicate args)
+specification_line_has flaw d (Bound name predicate vars counted most pick) =
     declaration_has flaw (map (λ b. b.name) d.bounds) name || bound_has flaw d predicate vars counted
-specification_line_has flaw d (Drops predicate args) = effect_has flaw d (bound_scope d) (remove_effect predicate args)
+specification_line_has flaw d (Drops predicate args) =
+    effect_has flaw d (with_constants d (bound_scope d)) (remove_effect predicate args)
 specification_line_has flaw d _ = false

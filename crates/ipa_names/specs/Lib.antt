@@ -10,3 +10,5 @@ pub mod NumberLaws
 pub mod CountLaws
 pub mod GrowthLaws
 pub mod SoundLaws
+pub mod FilterLaws
+pub mod ConstantLaws

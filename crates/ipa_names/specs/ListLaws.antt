@@ -8,13 +8,15 @@
 --   repeat_push, repeat-with_last   names of which none stands twice
 --   repeat_found       a name that stands among those before it stands twice
 --   split_at           the items before a place, the one there, and the others
---   find_at, found_first   what is found first
+--   find_at, found_first, found_behind, found_none   what is found first, and where nothing is
+--   zip_first          the first of two that stand at a place
 --   mapped_more        the items made of the first ones, with one more
 --   AllZip-push        a relation of two lists, place by place
 --   with_last_is       with the last item changed, the items before it stay
 --   with_last_put      the last item is taken off, changed and put back
-use Rattle.std.proofs.Common.{◌≡◌, ℕ, ◌+◌, ◌<◌, ◌⊎◌, inl, inr, Bool, true, false, cond, ◌-◌, ◌||◌, List, [], ◌∷◌, ◌++◌, length, map, take, Option, Some, refl, sym, ap, subst, ◌∙◌, zero, suc, arith, drop, get_or}
-use Rattle.std.specs.List.{slice_get, slice_index_or, list_any, find, AllZip}
+use Rattle.std.proofs.Common.{◌≡◌, ℕ, ◌+◌, ◌<◌, ◌⊎◌, inl, inr, Bool, true, false, cond, ◌-◌, ◌||◌, List, [], ◌∷◌, ◌++◌, length, map, take, Option, Some, None, refl, sym, ap, subst, ◌∙◌, zero, suc, arith, drop, get_or}
+use Rattle.std.specs.List.{slice_get, slice_index_or, list_any, find, zip, AllZip}
+use Rattle.std.specs.Option.{option_map}
 use Rattle.std.proofs.lemmas.List.{map-append, take_more}
 use Rattle.std.proofs.lemmas.Bool.{or_from, or_parts, or_cases, or_left, or_right}
 use Rattle.std.proofs.lemmas.Option.{same_Some}
@@ -135,6 +137,36 @@ pub found_first : {X : Type 0} (test : X → Bool) (xs ys : List X) (x : X) → 
 found_first test [] ys x h = cc
 found_first test (y ∷ xs) ys x h =
     found_step (test y) y x (find test xs) (find test (xs ++ ys)) h (found_first test xs ys x)
+
+-- what is found among more items, where it is not among the first
+pub found_behind : {X : Type 0} (test : X → Bool) (xs ys : List X) → find test xs ≡ None →
+    find test (xs ++ ys) ≡ find test ys
+found_behind test [] ys h = refl
+found_behind test (x ∷ xs) ys h = step (test x) h (found_behind test xs ys)
+  where
+    step : (b : Bool) → cond b (Some x) (find test xs) ≡ None →
+        (find test xs ≡ None → find test (xs ++ ys) ≡ find test ys) →
+        cond b (Some x) (find test (xs ++ ys)) ≡ find test ys
+    step true g later = cc
+    step false g later = later g
+
+-- where nothing is found no item passes
+pub found_none : {X : Type 0} (test : X → Bool) (xs : List X) → find test xs ≡ None → list_any test xs ≡ false
+found_none test [] h = refl
+found_none test (x ∷ xs) h = step (test x) h (found_none test xs)
+  where
+    step : (b : Bool) → cond b (Some x) (find test xs) ≡ None → (find test xs ≡ None → list_any test xs ≡ false) →
+        (b || list_any test xs) ≡ false
+    step true g later = cc
+    step false g later = later g
+
+-- the first of two that stand at a place
+pub zip_first : {X Y : Type 0} (xs : List X) (ys : List Y) (n : ℕ) (x : X) (y : Y) →
+    slice_get (zip xs ys) n ≡ Some (x, y) → slice_get xs n ≡ Some x
+zip_first [] ys n x y e = cc
+zip_first (a ∷ xs) [] n x y e = cc
+zip_first (a ∷ xs) (b ∷ ys) zero x y e = ap (option_map (λ p. p.0)) e
+zip_first (a ∷ xs) (b ∷ ys) (suc n) x y e = zip_first xs ys n x y e
 
 -- the items made of the first ones, with one more
 pub mapped_more : {X Y : Type 0} (f : X → Y) (xs : List X) (i : ℕ) (x : X) (all now : List Y) (y : Y) → i < length xs →

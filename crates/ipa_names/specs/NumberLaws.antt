@@ -4,15 +4,20 @@
 --   number_same        names that are the same have the same number
 --   number_below       a name that is there has a number below the count
 --   number_within      and so has the place of a name
+--   number_found       a name with a number below the count stands there
+--   number_absent      a name that is not there has no place
+--   number_more        a name that is there keeps its number where more names stand behind
+--   same_by_number     names that are there are the same where their numbers are
 --   slice_get-mapped   what is mapped at a place
 --   looked_among       a name among others, as it is looked up
-use Rattle.std.proofs.Common.{◌≡◌, ℕ, ◌+◌, ◌<◌, ◌≤◌, Bool, true, false, cond, not, ◌||◌, ltb, List, [], ◌∷◌, length, map, take, Option, Some, None, unwrap_or, refl, sym, ap, subst, zero, suc, arith}
+use Rattle.std.proofs.Common.{◌≡◌, ℕ, ◌+◌, ◌<◌, ◌≤◌, Bool, true, false, cond, not, ◌||◌, ltb, List, [], ◌∷◌, ◌++◌, length, map, take, Option, Some, None, unwrap_or, refl, sym, ap, subst, ◌∙◌, zero, suc, arith}
 use Rattle.std.specs.List.{slice_get, list_any, find, prefix_len, position}
 use Rattle.std.specs.Option.{option_map, IfSome}
 use Rattle.std.specs.Str.{bytes_eq}
-use Rattle.std.proofs.lemmas.Bool.{ltb-false, ltb-true}
+use Rattle.std.proofs.lemmas.Bool.{or_parts, ltb-false, ltb-true, le-ltb}
+use Rattle.std.proofs.lemmas.Option.{same_Some}
 use Rattle.ipa_spec.specs.Faults.{same_name, has_repeat}
-use Rattle.ipa_spec.specs.NameLaws.{same_bytes}
+use Rattle.ipa_spec.specs.NameLaws.{same_bytes, same_name-refl, one_name}
 use Rattle.ipa_spec.specs.declared.names.Name.{Name}
 use Rattle.ipa_names.specs.ListLaws.{any-map}
 use Rattle.ipa_names.specs.Naming.{is_among, number_in, number_or_count}
@@ -83,6 +88,84 @@ number_within names name = step (ltb (prefix_len (λ other. not (same_name other
         IfSome (cond b (Some (prefix_len (λ other. not (same_name other name)) names)) None) (λ n. n < length names)
     step true e = ltb-true (prefix_len (λ other. not (same_name other name)) names) (length names) e
     step false e = tt
+
+-- a name with a number below the count stands there
+pub number_found : (names : List Name) (name : Name) → number_or_count names name < length names →
+    number_in names name ≡ Some (number_or_count names name)
+number_found names name l = step (number_in names name) l
+  where
+    step : (found : Option ℕ) → unwrap_or found (length names) < length names →
+        found ≡ Some (unwrap_or found (length names))
+    step None l = absurd (omega arith)
+    step (Some n) l = refl
+
+prefix_whole : (names : List Name) (name : Name) → is_among names name ≡ false →
+    prefix_len (λ other. not (same_name other name)) names ≡ length names
+prefix_whole [] name h = refl
+prefix_whole (n ∷ names) name h =
+    let parts = or_parts (same_name n name) (is_among names name) h in
+    let before = prefix_whole names name parts.1 in
+    ap (λ b. cond (not b) (1 + prefix_len (λ other. not (same_name other name)) names) 0) parts.0
+    ∙ omega (arith, before)
+
+-- a name that is not there has no place
+pub number_absent : (names : List Name) (name : Name) → is_among names name ≡ false → number_in names name ≡ None
+number_absent names name h =
+    let whole = prefix_whole names name h in
+    let place : ℕ = prefix_len (λ other. not (same_name other name)) names in
+    ap (λ b. cond b (Some place) None) (le-ltb place (length names) (omega (arith, whole)))
+
+prefix_more : (names more : List Name) (name : Name) → is_among names name ≡ true →
+    prefix_len (λ other. not (same_name other name)) (names ++ more)
+    ≡ prefix_len (λ other. not (same_name other name)) names
+prefix_more [] more name h = cc
+prefix_more (n ∷ names) more name h = step (same_name n name) h (prefix_more names more name)
+  where
+    step : (b : Bool) → (b || is_among names name) ≡ true →
+        (is_among names name ≡ true → prefix_len (λ other. not (same_name other name)) (names ++ more)
+        ≡ prefix_len (λ other. not (same_name other name)) names) →
+        cond (not b) (1 + prefix_len (λ other. not (same_name other name)) (names ++ more)) 0
+        ≡ cond (not b) (1 + prefix_len (λ other. not (same_name other name)) names) 0
+    step true g later = refl
+    step false g later = ap (λ n. 1 + n) (later g)
+
+-- a name that is there keeps its number where more names stand behind
+pub number_more : (names more : List Name) (name : Name) → is_among names name ≡ true →
+    number_or_count (names ++ more) name ≡ number_or_count names name
+number_more names more name h =
+    number_is (names ++ more) name ∙ prefix_more names more name h ∙ sym (number_is names name)
+
+-- what stands at the place of a name
+among_at : (names : List Name) (name : Name) → is_among names name ≡ true →
+    (x : Name) × (slice_get names (prefix_len (λ other. not (same_name other name)) names) ≡ Some x)
+    × (same_name x name ≡ true)
+among_at [] name h = cc
+among_at (n ∷ names) name h = step (same_name n name) refl h (among_at names name)
+  where
+    step : (b : Bool) → same_name n name ≡ b → (b || is_among names name) ≡ true →
+        (is_among names name ≡ true → (x : Name)
+        × (slice_get names (prefix_len (λ other. not (same_name other name)) names) ≡ Some x)
+        × (same_name x name ≡ true)) → (x : Name)
+        × (slice_get (n ∷ names) (cond (not b) (1 + prefix_len (λ other. not (same_name other name)) names) 0) ≡ Some x)
+        × (same_name x name ≡ true)
+    step true is h later = (n, refl, is)
+    step false is h later =
+        let r = later h in
+        let place : ℕ = prefix_len (λ other. not (same_name other name)) names in
+        let more : suc place ≡ 1 + place = omega arith in
+        (r.0, subst (λ k. slice_get (n ∷ names) k ≡ Some r.0) more r.1, r.2)
+
+-- names that are there are the same where their numbers are
+pub same_by_number : (names : List Name) (a b : Name) → is_among names a ≡ true → is_among names b ≡ true →
+    number_or_count names a ≡ number_or_count names b → same_name a b ≡ true
+same_by_number names a b first second e =
+    let x = among_at names a first in
+    let y = among_at names b second in
+    let places = sym (number_is names a) ∙ e ∙ number_is names b in
+    let same : x.0 ≡ y.0 = same_Some x.0 y.0 (sym x.1 ∙ ap (slice_get names) places ∙ y.1) in
+    let one : x.0 ≡ a = one_name x.0 a (same_bytes x.0 a x.2) in
+    let other : y.0 ≡ b = one_name y.0 b (same_bytes y.0 b y.2) in
+    subst (λ n. same_name a n ≡ true) (sym one ∙ same ∙ other) (same_name-refl a)
 
 -- names of which none stands twice, made of others that keep their names
 pub repeat-map : {X Y : Type 0} (name_of : Y → Name) (of : X → Y) (xs : List X) →

@@ -5,9 +5,12 @@
 --   places_of d predicate         the names of the sorts of its places; none where it is not declared
 --   sort_of_variable scope name   the name of the sort that the variable has in a list of variables
 --   AreIndexed scope entries      the entries of a map give each variable's sort by its name
+--   with_constants d scope        what a name may mean in a literal or an effect over these variables: a variable,
+--                                 and else a constant
+--   constants_named cs sort       the constants of a sort, by its name
 --   operation_scope d             the parameters of the operation declared last; none where there is none
 --   bound_scope d                 the variables of the bound declared last, each of the sort of its place
-use Rattle.std.specs.Prelude.{◌≡◌, List, [], find, map, Option}
+use Rattle.std.specs.Prelude.{◌≡◌, List, [], ◌++◌, filter, find, map, Option}
 use Rattle.std.specs.List.{zip}
 use Rattle.std.specs.Map.{lookup}
 use Rattle.std.specs.Option.{option_map, option_map_or}
@@ -31,6 +34,12 @@ places_of d predicate = option_map_or (λ p. p.sorts) (predicate_named d predica
 
 abbrev pub sort_of_variable : List Typed → Name → Option Name
 sort_of_variable scope name = option_map (λ v. v.sort) (find (λ v. same_name v.name name) scope)
+
+abbrev pub with_constants : Declared → List Typed → List Typed
+with_constants d scope = scope ++ d.constants
+
+abbrev pub constants_named : List Typed → Name → List Typed
+constants_named cs sort = filter (λ c. same_name sort c.sort) cs
 
 abbrev pub operation_scope : Declared → List Typed
 operation_scope d = option_map_or (λ o. o.params) (last_of d.operations) []

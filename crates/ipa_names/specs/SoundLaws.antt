@@ -2,7 +2,7 @@
 --
 --   parts_push, parts_last   one more thing of a kind, and the last one changed
 --   sound_declared           each kind of line
-use Rattle.std.proofs.Common.{◌≡◌, ℕ, ◌+◌, ◌≤◌, false, ◌||◌, ◌==◌, List, [], ◌∷◌, ◌++◌, length, map, Option, Some, None, refl, sym, subst, ◌∙◌, arith}
+use Rattle.std.proofs.Common.{◌≡◌, ℕ, ◌+◌, ◌≤◌, false, ◌||◌, ◌==◌, List, [], ◌∷◌, ◌++◌, length, map, Option, Some, None, refl, sym, subst, ◌∙◌, append-nil, arith}
 use Rattle.std.specs.List.{list_any}
 use Rattle.std.specs.Option.{option_map, option_map_or}
 use Rattle.std.proofs.lemmas.Bool.{or_parts, or_left, eqb-true, not-false}
@@ -12,22 +12,23 @@ use Rattle.ipa_spec.specs.Faults.{same_name}
 use Rattle.ipa_spec.specs.declared.names.Name.{Name}
 use Rattle.ipa_names.specs.Naming.{is_among, last_of, with_last}
 use Rattle.ipa_names.specs.Declarations.{with_need, with_effect, with_remove, add_effect, remove_effect, with_declaration}
-use Rattle.ipa_names.specs.Scopes.{predicate_named, operation_scope, bound_variables}
+use Rattle.ipa_names.specs.Scopes.{predicate_named, constants_named, with_constants, operation_scope, bound_variables}
 use Rattle.ipa_names.specs.Flaws.{use_has, sort_has, list_has, variables_have, arity_named, literal_has, effect_has, counted_has, bound_has, declaration_has, specification_line_has}
 use Rattle.ipa_names.specs.Counts.{count_above, effects_above}
-use Rattle.ipa_names.specs.Soundness.{AreSoundParts, IsSoundOperation, IsSound, IsDeclarable}
+use Rattle.ipa_names.specs.Soundness.{AreSoundParts, IsSoundConstant, IsSoundOperation, IsSound, IsDeclarable}
 use Rattle.ipa_names.specs.declared.flaws.Flaw.{Flaw}
 use Rattle.ipa_names.specs.declared.flaws.Flaw.TheVariants.{Arity, UnknownName, Duplicate}
 use Rattle.ipa_forms.specs.declared.forms.Form.{Form}
-use Rattle.ipa_forms.specs.declared.forms.Form.TheVariants.{Sort, Pred, Clause, Op, Need, Add, Del, Bound, Drops, Elem, Base, Replicas, Session, Do, Show}
+use Rattle.ipa_forms.specs.declared.forms.Form.TheVariants.{Sort, Const, Pred, Clause, Op, Need, Add, Del, Bound, Drops, Elem, Base, Replicas, Session, Do, Show}
 use Rattle.ipa_names.specs.declared.declared.PredicateLine.{PredicateLine}
 use Rattle.ipa_names.specs.declared.declared.EffectLine.{EffectLine}
 use Rattle.ipa_names.specs.declared.declared.OperationLines.{OperationLines}
 use Rattle.ipa_names.specs.declared.declared.BoundLines.{BoundLines}
 use Rattle.ipa_names.specs.declared.declared.Declared.{Declared}
 use Rattle.ipa_names.specs.ListLaws.{each_push, each_last, any_push, any_weaken, any-map, repeat_push, repeat-with_last, length-with_last, find_at, found_first}
-use Rattle.ipa_names.specs.GrowthLaws.{Grows, known_use, sort_grown, literal_grown, literals_grown, effect_grown, variables_grown, bound_grown, weakened}
+use Rattle.ipa_names.specs.GrowthLaws.{Grows, known_use, sort_grown, literal_same, literals_grown, effect_same, variables_grown, bound_grown, weakened}
 use Rattle.ipa_names.specs.CountLaws.{count_kept, size_kept}
+use Rattle.ipa_names.specs.ConstantLaws.{constants_few, constants_more}
 
 parts_push : {X : Type 0} {name_of : X → Name} {most : ℕ} {P : X → Type 0} {xs : List X} (x : X) →
     AreSoundParts name_of most P xs → length xs + 1 ≤ most →
@@ -56,12 +57,16 @@ grows_by_sort : (d : Declared) (name : Name) → Grows d (record d { sorts = d.s
 grows_by_sort d name = record {
   sorts = λ sort h. list_any-append (λ other. same_name other sort) d.sorts (name ∷ []) ∙ or_left _ _ h;
   predicates = λ n p e. e;
+  more = [];
+  constants = sym (append-nil d.constants);
 }
 
 grows_by_predicate : (d : Declared) (p : PredicateLine) → Grows d (record d { predicates = d.predicates ++ p ∷ [] })
 grows_by_predicate d p = record {
   sorts = λ sort h. h;
   predicates = λ name q e. found_first (λ r. same_name r.name name) d.predicates (p ∷ []) q e;
+  more = [];
+  constants = sym (append-nil d.constants);
 }
 
 -- a test of what is found, where it is found
@@ -94,10 +99,10 @@ bound_variable_count d predicate vars counted h flawless =
 
 -- one more effect of the operation declared last
 sound_effect : (d e : Declared) → Grows d e → (effect : EffectLine) (o : OperationLines) →
-    last_of d.operations ≡ Some o → ((flaw : Flaw) → effect_has flaw d (operation_scope d) effect ≡ false) →
+    last_of d.operations ≡ Some o → ((flaw : Flaw) → effect_has flaw d (with_constants d (operation_scope d)) effect ≡ false) →
     effects_above d ≡ None → IsSoundOperation e o → IsSoundOperation e (with_effect effect o)
 sound_effect d e g effect o is flawless limit h =
-    let at = λ (flaw : Flaw). at_found (λ scope. effect_has flaw d scope effect ≡ false) (λ p. p.params) [] (last_of d.operations) o is (flawless flaw) in
+    let at = λ (flaw : Flaw). at_found (λ scope. effect_has flaw d (with_constants d scope) effect ≡ false) (λ p. p.params) [] (last_of d.operations) o is (flawless flaw) in
     let count = count_kept 9 12 (length o.effects + 1) (at_found (λ found. found ≡ None) (λ p. count_above 9 12 (length p.effects + 1)) None (last_of d.operations) o is limit) in
     record {
       parameter_count = h.parameter_count;
@@ -105,7 +110,7 @@ sound_effect d e g effect o is flawless limit h =
       effect_count = omega (arith, count, length-append o.effects (effect ∷ []));
       parameters = h.parameters;
       needs = h.needs;
-      effects = λ flaw. any_push (effect_has flaw e o.params) o.effects effect (h.effects flaw) (effect_grown d e g o.params effect (at UnknownName) flaw ∙ at flaw);
+      effects = λ flaw. any_push (effect_has flaw e (with_constants e o.params)) o.effects effect (h.effects flaw) (effect_same d e g o.params effect at flaw);
     }
 
 pub sound_declared : (d : Declared) (line : Form) → IsSound d → IsDeclarable d line → IsSound (with_declaration d line)
@@ -116,6 +121,27 @@ sound_declared d (Sort name) h u =
     record {
       sorts =
           parts_push name w.sorts (count_kept 1 8 (length d.sorts + 1) (u.limits 0 _ refl)) (u.flawless Duplicate) tt;
+      constants = w.constants;
+      constant_most = h.constant_most;
+      predicates = w.predicates;
+      clauses = w.clauses;
+      operations = w.operations;
+      bounds = w.bounds;
+    }
+sound_declared d (Const c) h u =
+    let e : Declared = record d { constants = d.constants ++ c ∷ [] } in
+    let g : Grows d e = record { sorts = λ sort k. k; predicates = λ n p k. k; more = c ∷ []; constants = refl } in
+    let w = weakened d e g h in
+    let parts = λ (flaw : Flaw). or_parts (declaration_has flaw (map (λ k. k.name) d.constants) c.name) (sort_has flaw d c.sort) (u.flawless flaw) in
+    let sound : IsSoundConstant e c = record { flawless = λ flaw. sort_grown d e g flaw c.sort (parts flaw).1 } in
+    let room = count_kept 19 4 (length (constants_named d.constants c.sort) + 1) (u.limits 0 _ refl) in
+    let most = constants_more d.constants c h.constant_most room in
+    let each = each_push d.constants c w.constants.each sound in
+    let few = constants_few d.sorts (d.constants ++ c ∷ []) (λ n k is. not-false (is_among d.sorts k.sort) ((each.at n k is).flawless UnknownName)) most in
+    record {
+      sorts = w.sorts;
+      constants = parts_push c w.constants (omega (arith, few, h.sorts.count, length-append d.constants (c ∷ []))) (free_name (λ k. k.name) d.constants c.name (parts Duplicate).0) sound;
+      constant_most = most;
       predicates = w.predicates;
       clauses = w.clauses;
       operations = w.operations;
@@ -129,6 +155,8 @@ sound_declared d (Pred name sorts rule) h u =
     let parts = λ (flaw : Flaw). or_parts (declaration_has flaw (map (λ q. q.name) d.predicates) name) (list_any (sort_has flaw d) sorts) (u.flawless flaw) in
     record {
       sorts = w.sorts;
+      constants = w.constants;
+      constant_most = h.constant_most;
       predicates = parts_push p w.predicates (count_kept 2 32 (length d.predicates + 1) (u.limits 0 _ refl)) (free_name (λ q. q.name) d.predicates name (parts Duplicate).0)
           (record {
             places = count_kept 3 3 (length sorts) (u.limits 1 _ refl);
@@ -140,12 +168,14 @@ sound_declared d (Pred name sorts rule) h u =
     }
 sound_declared d (Clause name vars literals) h u =
     let e : Declared = with_declaration d (Clause name vars literals) in
-    let g : Grows d e = record { sorts = λ sort k. k; predicates = λ n p k. k } in
+    let g : Grows d e = record { sorts = λ sort k. k; predicates = λ n p k. k; more = []; constants = sym (append-nil d.constants) } in
     let w = weakened d e g h in
-    let front = λ (flaw : Flaw). or_parts (declaration_has flaw (map (λ q. q.name) d.clauses) name || variables_have flaw d vars) (list_any (literal_has flaw d vars) literals) (u.flawless flaw) in
+    let front = λ (flaw : Flaw). or_parts (declaration_has flaw (map (λ q. q.name) d.clauses) name || variables_have flaw d vars) (list_any (literal_has flaw d (with_constants d vars)) literals) (u.flawless flaw) in
     let parts = λ (flaw : Flaw). or_parts (declaration_has flaw (map (λ q. q.name) d.clauses) name) (variables_have flaw d vars) (front flaw).0 in
     record {
       sorts = w.sorts;
+      constants = w.constants;
+      constant_most = h.constant_most;
       predicates = w.predicates;
       clauses = parts_push (record { name = name; vars = vars; literals = literals }) w.clauses (count_kept 4 32 (length d.clauses + 1) (u.limits 0 _ refl)) (free_name (λ q. q.name) d.clauses name (parts Duplicate).0)
           (record {
@@ -159,11 +189,13 @@ sound_declared d (Clause name vars literals) h u =
     }
 sound_declared d (Op name params) h u =
     let e : Declared = with_declaration d (Op name params) in
-    let g : Grows d e = record { sorts = λ sort k. k; predicates = λ n p k. k } in
+    let g : Grows d e = record { sorts = λ sort k. k; predicates = λ n p k. k; more = []; constants = sym (append-nil d.constants) } in
     let w = weakened d e g h in
     let parts = λ (flaw : Flaw). or_parts (declaration_has flaw (map (λ q. q.name) d.operations) name) (variables_have flaw d params) (u.flawless flaw) in
     record {
       sorts = w.sorts;
+      constants = w.constants;
+      constant_most = h.constant_most;
       predicates = w.predicates;
       clauses = w.clauses;
       operations = parts_push (record { name = name; params = params; needs = []; effects = [] }) w.operations (count_kept 7 32 (length d.operations + 1) (u.limits 0 _ refl)) (free_name (λ q. q.name) d.operations name (parts Duplicate).0)
@@ -179,31 +211,35 @@ sound_declared d (Op name params) h u =
     }
 sound_declared d (Need literal) h u =
     let e : Declared = with_declaration d (Need literal) in
-    let g : Grows d e = record { sorts = λ sort k. k; predicates = λ n p k. k } in
+    let g : Grows d e = record { sorts = λ sort k. k; predicates = λ n p k. k; more = []; constants = sym (append-nil d.constants) } in
     let w = weakened d e g h in
     record {
       sorts = w.sorts;
+      constants = w.constants;
+      constant_most = h.constant_most;
       predicates = w.predicates;
       clauses = w.clauses;
       operations = parts_last (with_need literal) w.operations (λ o. refl) (λ o is p.
-          let at = λ (flaw : Flaw). at_found (λ scope. literal_has flaw d scope literal ≡ false) (λ q. q.params) [] (last_of d.operations) o is (u.flawless flaw) in
+          let at = λ (flaw : Flaw). at_found (λ scope. literal_has flaw d (with_constants d scope) literal ≡ false) (λ q. q.params) [] (last_of d.operations) o is (u.flawless flaw) in
           let count = count_kept 10 6 (length o.needs + 1) (at_found (λ found. found ≡ None) (λ q. count_above 10 6 (length q.needs + 1)) None (last_of d.operations) o is (u.limits 0 _ refl)) in
           record {
             parameter_count = p.parameter_count;
             need_count = omega (arith, count, length-append o.needs (literal ∷ []));
             effect_count = p.effect_count;
             parameters = p.parameters;
-            needs = λ flaw. any_push (literal_has flaw e o.params) o.needs literal (p.needs flaw) (literal_grown d e g o.params literal (at UnknownName) flaw ∙ at flaw);
+            needs = λ flaw. any_push (literal_has flaw e (with_constants e o.params)) o.needs literal (p.needs flaw) (literal_same d e g o.params literal at flaw);
             effects = p.effects;
           });
       bounds = w.bounds;
     }
 sound_declared d (Add predicate args) h u =
     let e : Declared = with_declaration d (Add predicate args) in
-    let g : Grows d e = record { sorts = λ sort k. k; predicates = λ n p k. k } in
+    let g : Grows d e = record { sorts = λ sort k. k; predicates = λ n p k. k; more = []; constants = sym (append-nil d.constants) } in
     let w = weakened d e g h in
     record {
       sorts = w.sorts;
+      constants = w.constants;
+      constant_most = h.constant_most;
       predicates = w.predicates;
       clauses = w.clauses;
       operations = parts_last (with_effect (add_effect predicate args)) w.operations (λ o. refl) (λ o is p. sound_effect d e g (add_effect predicate args) o is u.flawless (u.limits 0 _ refl) p);
@@ -211,24 +247,28 @@ sound_declared d (Add predicate args) h u =
     }
 sound_declared d (Del predicate args) h u =
     let e : Declared = with_declaration d (Del predicate args) in
-    let g : Grows d e = record { sorts = λ sort k. k; predicates = λ n p k. k } in
+    let g : Grows d e = record { sorts = λ sort k. k; predicates = λ n p k. k; more = []; constants = sym (append-nil d.constants) } in
     let w = weakened d e g h in
     record {
       sorts = w.sorts;
+      constants = w.constants;
+      constant_most = h.constant_most;
       predicates = w.predicates;
       clauses = w.clauses;
       operations = parts_last (with_effect (remove_effect predicate args)) w.operations (λ o. refl) (λ o is p. sound_effect d e g (remove_effect predicate args) o is u.flawless (u.limits 0 _ refl) p);
       bounds = w.bounds;
     }
-sound_declared d (Bound name predicate vars counted most) h u =
-    let e : Declared = with_declaration d (Bound name predicate vars counted most) in
-    let b : BoundLines = record { name = name; predicate = predicate; vars = vars; counted = counted; most = most; removes = [] } in
-    let g : Grows d e = record { sorts = λ sort k. k; predicates = λ n p k. k } in
+sound_declared d (Bound name predicate vars counted most pick) h u =
+    let e : Declared = with_declaration d (Bound name predicate vars counted most pick) in
+    let b : BoundLines = record { name = name; predicate = predicate; vars = vars; counted = counted; most = most; pick = pick; removes = [] } in
+    let g : Grows d e = record { sorts = λ sort k. k; predicates = λ n p k. k; more = []; constants = sym (append-nil d.constants) } in
     let w = weakened d e g h in
     let parts = λ (flaw : Flaw). or_parts (declaration_has flaw (map (λ q. q.name) d.bounds) name) (bound_has flaw d predicate vars counted) (u.flawless flaw) in
     let size = size_kept most (u.limits 1 _ refl) in
     record {
       sorts = w.sorts;
+      constants = w.constants;
+      constant_most = h.constant_most;
       predicates = w.predicates;
       clauses = w.clauses;
       operations = w.operations;
@@ -246,16 +286,18 @@ sound_declared d (Bound name predicate vars counted most) h u =
 sound_declared d (Drops predicate args) h u =
     let e : Declared = with_declaration d (Drops predicate args) in
     let effect = remove_effect predicate args in
-    let g : Grows d e = record { sorts = λ sort k. k; predicates = λ n p k. k } in
+    let g : Grows d e = record { sorts = λ sort k. k; predicates = λ n p k. k; more = []; constants = sym (append-nil d.constants) } in
     let w = weakened d e g h in
     record {
       sorts = w.sorts;
+      constants = w.constants;
+      constant_most = h.constant_most;
       predicates = w.predicates;
       clauses = w.clauses;
       operations = w.operations;
       bounds = parts_last (with_remove effect) w.bounds (λ b. refl) (λ b is p.
-          let at = λ (flaw : Flaw). at_found (λ scope. effect_has flaw d scope effect ≡ false) (bound_variables d) [] (last_of d.bounds) b is (u.flawless flaw) in
-          let here = λ (flaw : Flaw). effect_grown d e g (bound_variables d b) effect (at UnknownName) flaw ∙ at flaw in
+          let at = λ (flaw : Flaw). at_found (λ scope. effect_has flaw d (with_constants d scope) effect ≡ false) (bound_variables d) [] (last_of d.bounds) b is (u.flawless flaw) in
+          let here = λ (flaw : Flaw). effect_same d e g (bound_variables d b) effect at flaw in
           let count = count_kept 13 4 (length b.removes + 1) (at_found (λ found. found ≡ None) (λ q. count_above 13 4 (length q.removes + 1)) None (last_of d.bounds) b is (u.limits 0 _ refl)) in
           record {
             variable_count = p.variable_count;
@@ -263,7 +305,7 @@ sound_declared d (Drops predicate args) h u =
             size = p.size;
             remove_count = omega (arith, count, length-append b.removes (effect ∷ []));
             flawless = p.flawless;
-            removes = λ flaw. any_push (effect_has flaw e (bound_variables e b)) b.removes effect (p.removes flaw) (here flaw);
+            removes = λ flaw. any_push (effect_has flaw e (with_constants e (bound_variables e b))) b.removes effect (p.removes flaw) (here flaw);
             removing = any_push (λ x. x.add) b.removes effect p.removing refl;
           });
     }

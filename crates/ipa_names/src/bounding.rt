@@ -7,7 +7,7 @@ use crate::declared::{BoundLines, Declared};
 use crate::naming::number_or_count;
 use crate::numbering::{effects_of, predicate_number};
 use crate::scopes::bound_variables;
-use ipa_spec::{Bound, List, Name, Pick};
+use ipa_spec::{Bound, List, Name};
 use std::alloc::{AllocError, Global};
 
 /// The name in a place, and another past the end.
@@ -37,6 +37,7 @@ fn three_names(own: Name, names: &[Name]) -> [Name; 3]
 /// A declared bound.
 fn bound_of(alloc: Global, declared: &Declared, bound: &BoundLines) -> Result<Bound, AllocError>
     requires predicates { length declared.now.predicates ≤ 32 }
+    requires constants { length declared.now.constants ≤ 32 }
     requires variables { length bound.now.vars ≤ 3 }
     requires size { bound.now.most ≤ 65535 }
     ensures { IfOk result (λ bound_is. bound_is ≡ bound_of declared.now bound.now) }
@@ -50,7 +51,7 @@ fn bound_of(alloc: Global, declared: &Declared, bound: &BoundLines) -> Result<Bo
         counted: number_or_count(bound.vars.as_slice(), &bound.counted) as u8,
         most: bound.most as u16,
         removes,
-        pick: Pick::Greatest,
+        pick: bound.pick,
     })
 }
 

@@ -1,6 +1,6 @@
 //! What the specification lines of a document declare, by names.
 use ipa_forms::{LiteralForm, Typed};
-use ipa_spec::{List, Name, Rule};
+use ipa_spec::{List, Name, Pick, Rule};
 
 /// A declared predicate.
 #[derive(Drop)]
@@ -31,7 +31,7 @@ pub struct EffectLine {
     pub add: bool,
     /// The name of its predicate.
     pub predicate: Name,
-    /// The names of the variables in its places; `None` stands for `*`.
+    /// The names in its places, of variables or of constants; `None` stands for `*`.
     pub args: List<Option<Name>>,
 }
 
@@ -61,6 +61,8 @@ pub struct BoundLines {
     pub counted: Name,
     /// The greatest size of a group.
     pub most: u32,
+    /// Which fact of a group over the bound a drop removes.
+    pub pick: Pick,
     /// What is removed beside a dropped fact.
     pub removes: List<EffectLine>,
 }
@@ -70,6 +72,8 @@ pub struct BoundLines {
 pub struct Declared {
     /// The names of the sorts.
     pub sorts: List<Name>,
+    /// The constants, each with its sort.
+    pub constants: List<Typed>,
     /// The predicates.
     pub predicates: List<PredicateLine>,
     /// The clauses.

@@ -16,6 +16,7 @@ pub fn nothing_declared(alloc: Global) -> Declared
 {
     Declared {
         sorts: List::new(alloc),
+        constants: List::new(alloc),
         predicates: List::new(alloc),
         clauses: List::new(alloc),
         operations: List::new(alloc),
@@ -28,6 +29,14 @@ fn with_sort(mut declared: Declared, name: Name) -> Result<Declared, AllocError>
     ensures { IfOk result (λ now. now ≡ record declared { sorts = declared.sorts ++ name ∷ [] }) }
 {
     declared.sorts.push(name)?;
+    Ok(declared)
+}
+
+/// One more constant.
+fn with_constant(mut declared: Declared, constant: Typed) -> Result<Declared, AllocError>
+    ensures { IfOk result (λ now. now ≡ record declared { constants = declared.constants ++ constant ∷ [] }) }
+{
+    declared.constants.push(constant)?;
     Ok(declared)
 }
 
@@ -224,6 +233,7 @@ pub fn with_declaration(
 {
     match line {
         Form::Sort { name } => with_sort(declared, name),
+        Form::Const { constant } => with_constant(declared, constant),
         Form::Pred { name, sorts, rule } => with_predicate(
             declared,
             PredicateLine { name, sorts, rule },
@@ -250,6 +260,7 @@ pub fn with_declaration(
             vars,
             counted,
             most,
+            pick,
         } => with_bound(
             declared,
             BoundLines {
@@ -258,6 +269,7 @@ pub fn with_declaration(
                 vars,
                 counted,
                 most,
+                pick,
                 removes: List::new(alloc),
             },
         ),

@@ -3,19 +3,21 @@ ghost use Rattle.std.specs.Prelude.{◌≡◌, ◌+◌, [], ◌∷◌, IfOk, map
 ghost use Rattle.std.specs.Option.{option_map_or};
 ghost use Rattle.ipa_spec.specs.Limits.{above, size_outside};
 ghost use Rattle.ipa_names.specs.Naming.{is_among, last_of};
-ghost use Rattle.ipa_names.specs.Scopes.{operation_scope};
+ghost use Rattle.ipa_names.specs.Scopes.{constants_named, operation_scope, with_constants};
 ghost use Rattle.ipa_names.specs.Flaws.{declaration_has, effect_has, specification_line_has};
 ghost use Rattle.ipa_names.specs.Counts.{count_above, effects_above, limit_passed};
 
+use crate::constants::constant_count;
 use crate::declared::Declared;
 use crate::flaws::{
-    Flaw, bound_has, effect_has, literal_has, some_literal_has, some_sort_has, variables_have,
+    Flaw, bound_has, effect_has, literal_has, some_literal_has, some_sort_has, sort_has,
+    variables_have,
 };
 use crate::naming::{is_among, same_name};
-use crate::scopes::{bound_scope, last_bound, last_operation, operation_scope};
+use crate::scopes::{bound_scope, last_bound, last_operation, operation_scope, with_constants};
 use crate::variables::Variables;
 use ipa_forms::{Form, LiteralForm, Typed};
-use ipa_spec::{List, Name, SpecFault};
+use ipa_spec::{List, Name, Pick, SpecFault};
 use std::alloc::{AllocError, Global};
 
 /// A declaration of a sort.
@@ -24,6 +26,28 @@ fn sort_is_declared(flaw: Flaw, declared: &Declared, name: &Name) -> bool
 {
     match flaw {
         Flaw::Duplicate => is_among(declared.sorts.as_slice(), name),
+        _ => false,
+    }
+}
+
+/// Whether a constant has the name.
+fn names_constant(declared: &Declared, name: &Name) -> bool
+    ensures { result ≡ is_among (map (λ c. c.name) declared.now.constants) name.now }
+{
+    declared
+        .constants
+        .as_slice()
+        .iter()
+        .map(|constant| constant.name)
+        .any(|other| same_name(&other, name))
+}
+
+/// A declaration of a constant.
+fn constant_is_declared(flaw: Flaw, declared: &Declared, name: &Name) -> bool
+    ensures { result ≡ declaration_has flaw (map (λ c. c.name) declared.now.constants) name.now }
+{
+    match flaw {
+        Flaw::Duplicate => names_constant(declared, name),
         _ => false,
     }
 }
@@ -116,6 +140,14 @@ fn bound_is_declared(flaw: Flaw, declared: &Declared, name: &Name) -> bool
     }
 }
 
+/// What may be meant in a literal or an effect over these variables, looked up by name.
+fn scope_of(alloc: Global, declared: &Declared, vars: &[Typed]) -> Result<Variables, AllocError>
+    ensures { IfOk result (λ scope. scope ≡ with_constants declared.now vars.now) }
+{
+    let scope = with_constants(alloc, declared, vars)?;
+    Variables::new(alloc, &scope)
+}
+
 /// A `clause` line.
 #[tactic(auto, unfolding(crate::specs::Flaws::specification_line_has))]
 fn clause_line_has(
@@ -129,7 +161,7 @@ fn clause_line_has(
     ensures { IfOk result (λ found. found ≡ specification_line_has flaw declared.now (Form.Clause name.now vars.now literals.now)) }
 {
     let variables = variables_have(alloc, flaw, declared, vars.as_slice())?;
-    let scope = Variables::new(alloc, vars.as_slice())?;
+    let scope = scope_of(alloc, declared, vars.as_slice())?;
     Ok(
         clause_is_declared(flaw, declared, name)
             || variables
@@ -162,7 +194,7 @@ fn need_line_has(
 ) -> Result<bool, AllocError>
     ensures { IfOk result (λ found. found ≡ specification_line_has flaw declared.now (Form.Need literal.now)) }
 {
-    let scope = Variables::new(alloc, operation_scope(declared))?;
+    let scope = scope_of(alloc, declared, operation_scope(declared))?;
     Ok(literal_has(flaw, declared, &scope, literal))
 }
 
@@ -175,9 +207,9 @@ fn effect_line_has(
     predicate: &Name,
     args: &List<Option<Name>>,
 ) -> Result<bool, AllocError>
-    ensures { IfOk result (λ found. found ≡ effect_has flaw declared.now (operation_scope declared.now) (record { add = add; predicate = predicate.now; args = args.now })) }
+    ensures { IfOk result (λ found. found ≡ effect_has flaw declared.now (with_constants declared.now (operation_scope declared.now)) (record { add = add; predicate = predicate.now; args = args.now })) }
 {
-    let scope = Variables::new(alloc, operation_scope(declared))?;
+    let scope = scope_of(alloc, declared, operation_scope(declared))?;
     Ok(effect_has(flaw, declared, &scope, add, predicate, args))
 }
 
@@ -192,8 +224,9 @@ fn bound_line_has(
     vars: &List<Name>,
     counted: &Name,
     most: u32,
+    pick: Pick,
 ) -> Result<bool, AllocError>
-    ensures { IfOk result (λ found. found ≡ specification_line_has flaw declared.now (Form.Bound name.now predicate.now vars.now counted.now most)) }
+    ensures { IfOk result (λ found. found ≡ specification_line_has flaw declared.now (Form.Bound name.now predicate.now vars.now counted.now most pick)) }
 {
     let subject = bound_has(alloc, flaw, declared, predicate, vars.as_slice(), counted)?;
     Ok(bound_is_declared(flaw, declared, name) || subject)
@@ -211,7 +244,7 @@ fn drops_line_has(
     ensures { IfOk result (λ found. found ≡ specification_line_has flaw declared.now (Form.Drops predicate.now args.now)) }
 {
     let vars = bound_scope(alloc, declared)?;
-    let scope = Variables::new(alloc, &vars)?;
+    let scope = scope_of(alloc, declared, &vars)?;
     Ok(effect_has(flaw, declared, &scope, false, predicate, args))
 }
 
@@ -227,6 +260,10 @@ pub fn specification_line_has(
 {
     match line {
         Form::Sort { name } => Ok(sort_is_declared(flaw, declared, name)),
+        Form::Const { constant } => Ok(
+            constant_is_declared(flaw, declared, &constant.name)
+                || sort_has(flaw, declared, &constant.sort),
+        ),
         Form::Pred { name, sorts, .. } => Ok(
             predicate_is_declared(flaw, declared, name)
                 || some_sort_has(flaw, declared, sorts.as_slice()),
@@ -250,7 +287,10 @@ pub fn specification_line_has(
             vars,
             counted,
             most,
-        } => bound_line_has(alloc, flaw, declared, name, predicate, vars, counted, *most),
+            pick,
+        } => bound_line_has(
+            alloc, flaw, declared, name, predicate, vars, counted, *most, *pick,
+        ),
         Form::Drops { predicate, args } => drops_line_has(alloc, flaw, declared, predicate, args),
         _ => Ok(false),
     }
@@ -282,6 +322,14 @@ fn size_outside(size: u32) -> Option<SpecFault>
             found: size as u64,
         })
     }
+}
+
+/// The limit of constants of a sort, counted with one more.
+fn constants_above(declared: &Declared, sort: &Name) -> Option<SpecFault>
+    ensures { result ≡ count_above 19 4 (length (constants_named declared.now.constants sort.now) + 1) }
+{
+    let constants = declared.constants.as_slice();
+    count_above(19, 4, constant_count(constants, sort) + 1)
 }
 
 /// The limit of needs, counted with one more need of the operation declared last.
@@ -320,6 +368,7 @@ pub fn limit_passed(declared: &Declared, line: &Form) -> Option<SpecFault>
 {
     match line {
         Form::Sort { .. } => count_above(1, 8, declared.sorts.as_slice().len() + 1),
+        Form::Const { constant } => constants_above(declared, &constant.sort),
         Form::Pred { sorts, .. } => count_above(2, 32, declared.predicates.as_slice().len() + 1).or(
             count_above(3, 3, sorts.len()),
         ),

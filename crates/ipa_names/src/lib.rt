@@ -14,6 +14,7 @@
 #![tactic(auto)]
 
 mod bounding;
+mod constants;
 mod declared;
 mod declaring;
 mod flaws;

@@ -3,10 +3,11 @@ ghost use Rattle.std.specs.Prelude.{◌≡◌, ◌<◌, ◌≤◌, ◌∷◌, Li
 ghost use Rattle.ipa_spec.specs.declared.names.Name.{Name};
 ghost use Rattle.ipa_spec.specs.declared.constants.Term.TheVariants.{Var as Variable};
 ghost use Rattle.ipa_spec.specs.declared.operations.Arg.TheVariants.{Any};
-ghost use Rattle.ipa_names.specs.Naming.{number_in, number_or_count};
-ghost use Rattle.ipa_names.specs.Meaning.{sort_number, variable_number, predicate_of, var_of, term_of, three_terms, atom_of, literal_of, clause_of, arg_of, three_args, effect_of, operation_of, three, predicate_number};
+ghost use Rattle.ipa_names.specs.Naming.{number_in};
+ghost use Rattle.ipa_names.specs.Meaning.{sort_number, predicate_of, var_of, term_of, term_arg, three_terms, atom_of, literal_of, clause_of, arg_of, three_args, effect_of, operation_of, three, predicate_number};
 ghost use Rattle.ipa_names.specs.Soundness.{IsSound};
 
+use crate::constants::constant_number;
 use crate::declared::{ClauseLine, Declared, EffectLine, OperationLines, PredicateLine};
 use crate::naming::{number_or_count, same_name};
 use ipa_forms::{AtomForm, LiteralForm, Typed};
@@ -14,7 +15,7 @@ use ipa_spec::{Arg, Atom, Clause, Effect, List, Literal, Name, Operation, Predic
 use std::alloc::{AllocError, Global};
 
 /// The number of a sort.
-fn sort_number(declared: &Declared, sort: &Name) -> u8
+pub(crate) fn sort_number(declared: &Declared, sort: &Name) -> u8
     requires { length declared.now.sorts ≤ 8 }
     ensures { result ≡ sort_number declared.now sort.now }
 {
@@ -54,17 +55,6 @@ fn variable_place(scope: &[Typed], name: &Name) -> Option<usize>
         .iter()
         .map(|variable| variable.name)
         .position(|other| same_name(&other, name))
-}
-
-/// The number of a variable in its list.
-fn variable_number(scope: &[Typed], name: &Name) -> u8
-    requires { length scope.now ≤ 4 }
-    ensures { result ≡ variable_number scope.now name.now }
-{
-    match variable_place(scope, name) {
-        Some(place) => place as u8,
-        None => scope.len() as u8,
-    }
 }
 
 /// The number in a place, and 0 past the end.
@@ -131,20 +121,34 @@ fn vars_of(alloc: Global, declared: &Declared, vars: &[Typed]) -> Result<Vec<Var
         .collect(alloc)
 }
 
-/// What stands in a place of an atom, or on a side of an equality.
-fn term_of(scope: &[Typed], name: &Name) -> Term
-    requires { length scope.now ≤ 4 }
-    ensures { result ≡ term_of scope.now name.now }
+/// What a name means in a place of an atom, or on a side of an equality: the variable of the list, or else the
+/// constant.
+fn term_of(declared: &Declared, scope: &[Typed], name: &Name) -> Term
+    requires constants { length declared.now.constants ≤ 32 }
+    requires scope { length scope.now ≤ 4 }
+    ensures { result ≡ term_of declared.now scope.now name.now }
 {
-    Term::Var(variable_number(scope, name))
+    match variable_place(scope, name) {
+        Some(place) => Term::Var(place as u8),
+        None => Term::Const(constant_number(declared, name)),
+    }
 }
 
 /// What stands in the places of an atom.
-fn terms_of(alloc: Global, scope: &[Typed], names: &[Name]) -> Result<Vec<Term>, AllocError>
-    requires { length scope.now ≤ 4 }
-    ensures { IfOk result (λ terms. terms.items ≡ map (term_of scope.now) names.now) }
+fn terms_of(
+    alloc: Global,
+    declared: &Declared,
+    scope: &[Typed],
+    names: &[Name],
+) -> Result<Vec<Term>, AllocError>
+    requires constants { length declared.now.constants ≤ 32 }
+    requires scope { length scope.now ≤ 4 }
+    ensures { IfOk result (λ terms. terms.items ≡ map (term_of declared.now scope.now) names.now) }
 {
-    names.iter().map(|name| term_of(scope, name)).collect(alloc)
+    names
+        .iter()
+        .map(|name| term_of(declared, scope, name))
+        .collect(alloc)
 }
 
 /// The term in a place, and the first variable past the end.
@@ -172,10 +176,11 @@ fn atom_of(
     atom: &AtomForm,
 ) -> Result<Atom, AllocError>
     requires predicates { length declared.now.predicates ≤ 32 }
+    requires constants { length declared.now.constants ≤ 32 }
     requires scope { length scope.now ≤ 4 }
     ensures { IfOk result (λ atom_is. atom_is ≡ atom_of declared.now scope.now atom.now) }
 {
-    let terms = terms_of(alloc, scope, atom.args.as_slice())?;
+    let terms = terms_of(alloc, declared, scope, atom.args.as_slice())?;
     Ok(Atom {
         predicate: predicate_number(declared, &atom.predicate),
         args: three_terms(&terms),
@@ -190,6 +195,7 @@ fn literal_of(
     literal: &LiteralForm,
 ) -> Result<Literal, AllocError>
     requires predicates { length declared.now.predicates ≤ 32 }
+    requires constants { length declared.now.constants ≤ 32 }
     requires scope { length scope.now ≤ 4 }
     ensures { IfOk result (λ literal_is. literal_is ≡ literal_of declared.now scope.now literal.now) }
 {
@@ -197,10 +203,16 @@ fn literal_of(
         LiteralForm::Holds(atom) => Ok(Literal::Holds(atom_of(alloc, declared, scope, atom)?)),
         LiteralForm::Fails(atom) => Ok(Literal::Fails(atom_of(alloc, declared, scope, atom)?)),
         LiteralForm::Same(one, other) => {
-            Ok(Literal::Same(term_of(scope, one), term_of(scope, other)))
+            Ok(Literal::Same(
+                term_of(declared, scope, one),
+                term_of(declared, scope, other),
+            ))
         }
         LiteralForm::Differ(one, other) => {
-            Ok(Literal::Differ(term_of(scope, one), term_of(scope, other)))
+            Ok(Literal::Differ(
+                term_of(declared, scope, one),
+                term_of(declared, scope, other),
+            ))
         }
     }
 }
@@ -213,6 +225,7 @@ fn literals_of(
     literals: &[LiteralForm],
 ) -> Result<List<Literal>, AllocError>
     requires predicates { length declared.now.predicates ≤ 32 }
+    requires constants { length declared.now.constants ≤ 32 }
     requires scope { length scope.now ≤ 4 }
     ensures { IfOk result (λ all. all ≡ map (literal_of declared.now scope.now) literals.now) }
 {
@@ -227,6 +240,7 @@ fn literals_of(
 fn clause_of(alloc: Global, declared: &Declared, clause: &ClauseLine) -> Result<Clause, AllocError>
     requires sorts { length declared.now.sorts ≤ 8 }
     requires predicates { length declared.now.predicates ≤ 32 }
+    requires constants { length declared.now.constants ≤ 32 }
     requires variables { length clause.now.vars ≤ 4 }
     ensures { IfOk result (λ clause_is. clause_is ≡ clause_of declared.now clause.now) }
 {
@@ -244,13 +258,24 @@ fn clause_of(alloc: Global, declared: &Declared, clause: &ClauseLine) -> Result<
     })
 }
 
+/// The argument that a term is.
+fn term_arg(term: Term) -> Arg
+    ensures { result ≡ term_arg term }
+{
+    match term {
+        Term::Var(variable) => Arg::Var(variable),
+        Term::Const(constant) => Arg::Const(constant),
+    }
+}
+
 /// An argument of an effect.
-fn arg_of(scope: &[Typed], argument: &Option<Name>) -> Arg
-    requires { length scope.now ≤ 4 }
-    ensures { result ≡ arg_of scope.now argument.now }
+fn arg_of(declared: &Declared, scope: &[Typed], argument: &Option<Name>) -> Arg
+    requires constants { length declared.now.constants ≤ 32 }
+    requires scope { length scope.now ≤ 4 }
+    ensures { result ≡ arg_of declared.now scope.now argument.now }
 {
     match argument {
-        Some(name) => Arg::Var(variable_number(scope, name)),
+        Some(name) => term_arg(term_of(declared, scope, name)),
         None => Arg::Any,
     }
 }
@@ -258,15 +283,17 @@ fn arg_of(scope: &[Typed], argument: &Option<Name>) -> Arg
 /// The arguments of an effect.
 fn args_of(
     alloc: Global,
+    declared: &Declared,
     scope: &[Typed],
     arguments: &[Option<Name>],
 ) -> Result<Vec<Arg>, AllocError>
-    requires { length scope.now ≤ 4 }
-    ensures { IfOk result (λ args. args.items ≡ map (arg_of scope.now) arguments.now) }
+    requires constants { length declared.now.constants ≤ 32 }
+    requires scope { length scope.now ≤ 4 }
+    ensures { IfOk result (λ args. args.items ≡ map (arg_of declared.now scope.now) arguments.now) }
 {
     arguments
         .iter()
-        .map(|argument| arg_of(scope, argument))
+        .map(|argument| arg_of(declared, scope, argument))
         .collect(alloc)
 }
 
@@ -288,10 +315,11 @@ fn effect_of(
     effect: &EffectLine,
 ) -> Result<Effect, AllocError>
     requires predicates { length declared.now.predicates ≤ 32 }
+    requires constants { length declared.now.constants ≤ 32 }
     requires scope { length scope.now ≤ 4 }
     ensures { IfOk result (λ effect_is. effect_is ≡ effect_of declared.now scope.now effect.now) }
 {
-    let args = args_of(alloc, scope, effect.args.as_slice())?;
+    let args = args_of(alloc, declared, scope, effect.args.as_slice())?;
     Ok(Effect {
         add: effect.add,
         predicate: predicate_number(declared, &effect.predicate),
@@ -307,6 +335,7 @@ pub(crate) fn effects_of(
     effects: &[EffectLine],
 ) -> Result<List<Effect>, AllocError>
     requires predicates { length declared.now.predicates ≤ 32 }
+    requires constants { length declared.now.constants ≤ 32 }
     requires scope { length scope.now ≤ 4 }
     ensures { IfOk result (λ all. all ≡ map (effect_of declared.now scope.now) effects.now) }
 {
@@ -325,6 +354,7 @@ fn operation_of(
 ) -> Result<Operation, AllocError>
     requires sorts { length declared.now.sorts ≤ 8 }
     requires predicates { length declared.now.predicates ≤ 32 }
+    requires constants { length declared.now.constants ≤ 32 }
     requires parameters { length operation.now.params ≤ 4 }
     ensures { IfOk result (λ operation_is. operation_is ≡ operation_of declared.now operation.now) }
 {

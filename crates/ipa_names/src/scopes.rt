@@ -2,7 +2,7 @@
 ghost use Rattle.std.specs.Prelude.{◌≡◌, IfOk};
 ghost use Rattle.std.specs.Option.{option_copied};
 ghost use Rattle.ipa_names.specs.Naming.{last_of};
-ghost use Rattle.ipa_names.specs.Scopes.{predicate_named, operation_named, places_of, operation_scope, typed_by_places, bound_variables, bound_scope};
+ghost use Rattle.ipa_names.specs.Scopes.{with_constants, predicate_named, operation_named, places_of, operation_scope, typed_by_places, bound_variables, bound_scope};
 
 use crate::declared::{BoundLines, Declared, OperationLines, PredicateLine};
 use crate::naming::same_name;
@@ -64,6 +64,19 @@ pub(crate) fn operation_scope(declared: &Declared) -> &[Typed]
         Some(operation) => operation.params.as_slice(),
         None => &[],
     }
+}
+
+/// What a name may mean in a literal or an effect: the variables of its list, and then the constants.
+pub(crate) fn with_constants(
+    alloc: Global,
+    declared: &Declared,
+    vars: &[Typed],
+) -> Result<Vec<Typed>, AllocError>
+    ensures { IfOk result (λ scope. scope.items ≡ with_constants declared.now vars.now) }
+{
+    let mut scope = Vec::from_slice(alloc, vars)?;
+    scope.extend_from_slice(declared.constants.as_slice())?;
+    Ok(scope)
 }
 
 /// Variables, each of the sort of its place.

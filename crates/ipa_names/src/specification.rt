@@ -4,6 +4,7 @@ ghost use Rattle.ipa_names.specs.Meaning.{specification_of};
 ghost use Rattle.ipa_names.specs.Soundness.{IsSound};
 
 use crate::bounding::bounds_of;
+use crate::constants::constants_of;
 use crate::declared::Declared;
 use crate::laws::is_faultless;
 use crate::numbering::{clauses_of, operations_of, predicates_of};
@@ -16,14 +17,14 @@ pub fn specification_of(alloc: Global, declared: Declared) -> Result<Spec, Alloc
     ensures { IfOk result (λ spec. spec ≡ specification_of declared) }
 {
     is_faultless();
+    let constants = constants_of(alloc, &declared)?;
     let predicates = predicates_of(alloc, &declared)?;
     let clauses = clauses_of(alloc, &declared)?;
     let operations = operations_of(alloc, &declared)?;
     let bounds = bounds_of(alloc, &declared)?;
-    let constants = List::new(alloc);
     match Spec::new(
         declared.sorts,
-        constants,
+        List::from_vec(constants),
         predicates,
         clauses,
         operations,

@@ -1,4 +1,4 @@
-//! The variables of a list, looked up by name.
+//! The variables of a list and the constants, looked up by name.
 ghost use Rattle.std.specs.Prelude.{◌≡◌, IfOk};
 ghost use Rattle.ipa_names.specs.Scopes.{sort_of_variable, AreIndexed};
 

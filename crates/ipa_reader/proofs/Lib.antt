@@ -1,6 +1,10 @@
 pub mod MoreLemmas
 pub mod Unrefused
 pub mod SoundArranged
+pub mod SoundConstants
+pub mod SaidFits
+pub mod SaidMore
+pub mod SoundFitting
 pub mod SoundNext
 pub mod SoundDocuments
 pub mod ReadingLemmas

@@ -19,7 +19,7 @@ use Rattle.ipa_names.specs.Meaning.{three, predicate_number}
 use Rattle.ipa_names.specs.Naming.{number_in, number_or_count, with_last}
 use Rattle.ipa_names.specs.Scopes.{places_of, operation_named}
 use Rattle.ipa_forms.specs.declared.forms.Form.{Form}
-use Rattle.ipa_forms.specs.declared.forms.Form.TheVariants.{Elem, Base, Replicas, Session, Do, Show}
+use Rattle.ipa_forms.specs.declared.forms.Form.TheVariants.{Const, Elem, Base, Replicas, Session, Do, Show}
 use Rattle.ipa_names.specs.declared.declared.Declared.{Declared}
 use Rattle.ipa_reader.specs.declared.sessions.SessionWork.{SessionWork}
 use Rattle.ipa_reader.specs.declared.standing.Arranged.{Arranged}
@@ -89,8 +89,10 @@ with_request asked work = record work { requests = work.requests ++ asked ∷ []
 abbrev pub nothing_arranged : Arranged
 nothing_arranged = record { elements = []; facts = []; replicas = 1; sessions = [] }
 
--- requests go to the session declared last; sessions name their replicas from 1
+-- a constant is the next element of its sort, so that the elements of a sort begin with its constants; requests go to
+-- the session declared last; sessions name their replicas from 1
 abbrev pub with_arrangement : Declared → Arranged → Form → Arranged
+with_arrangement d a (Const c) = record a { elements = with_elements d a.elements c.sort (c.name ∷ []) }
 with_arrangement d a (Elem sort names) = record a { elements = with_elements d a.elements sort names }
 with_arrangement d a (Base predicate names) =
     record a { facts = a.facts ++ fact_said d a.elements predicate names ∷ [] }

@@ -9,3 +9,4 @@ pub mod Documents
 pub mod Readings
 pub mod StandingLaws
 pub mod RefusalLaws
+pub mod Fitting

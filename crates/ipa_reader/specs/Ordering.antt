@@ -33,7 +33,7 @@ is_operation_part (Del predicate args) = true
 is_operation_part _ = false
 
 abbrev pub is_bound : Form → Bool
-is_bound (Bound name predicate vars counted most) = true
+is_bound (Bound name predicate vars counted most pick) = true
 is_bound _ = false
 
 -- a line that goes on with a bound

@@ -361,6 +361,13 @@ pub(crate) fn with_arrangement(
     ensures { IfOk result (λ now. now ≡ with_arrangement declared.now arranged line.now) }
 {
     match line {
+        Form::Const { constant } => with_more_elements(
+            alloc,
+            declared,
+            arranged,
+            &constant.sort,
+            &[constant.name],
+        ),
         Form::Elem { sort, elements } => {
             with_more_elements(alloc, declared, arranged, sort, elements.as_slice())
         }

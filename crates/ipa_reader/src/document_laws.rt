@@ -3,6 +3,7 @@ ghost use Rattle.std.specs.Prelude.{◌≡◌, ℕ, List};
 ghost use Rattle.ipa_spec.specs.Limits.{IsFaultless};
 ghost use Rattle.ipa_reader.specs.Documents.{ReadsAs, IsRefused};
 ghost use Rattle.ipa_reader.specs.Setups.{IsSetup, IsKept};
+ghost use Rattle.ipa_reader.specs.Fitting.{IsFitting};
 ghost use Rattle.ipa_reader.specs.declared.document.Document.{Document};
 ghost use Rattle.ipa_reader.specs.declared.document.Setup.{Setup};
 ghost use Rattle.ipa_reader.specs.declared.refusals.DocKind.{DocKind};
@@ -33,3 +34,9 @@ pub fn document_faultless()
 {
     is_faultless();
 }
+
+/// The setup of a document fits its specification: the elements of each sort begin with its constants, the base is
+/// a state over the universe, and each request is one of the specification over the universe.
+pub fn document_fits()
+    ensures { (bytes : List ℕ) (document : Document) → ReadsAs bytes document → IsFitting document.spec document.setup.universe.sizes document.setup.elements document.setup.base document.setup.sessions }
+{}

@@ -1,5 +1,5 @@
 //! The lists of elements, one for each sort.
-ghost use Rattle.std.specs.Prelude.{◌≡◌, ◌<◌, ◌++◌, List, false, IfOk, length};
+ghost use Rattle.std.specs.Prelude.{◌≡◌, ℕ, ◌<◌, ◌++◌, List, false, IfOk, length};
 ghost use Rattle.ipa_spec.specs.Faults.{has_repeat};
 ghost use Rattle.ipa_spec.specs.declared.names.Name.{Name};
 ghost use Rattle.ipa_reader.specs.Arrangements.{elements_at, elements_of, with_more, with_elements};
@@ -78,6 +78,19 @@ pub(crate) fn lists_of(
     for names in elements.as_slice() {
         let copied = Vec::from_slice(alloc, names.as_slice())?;
         all.push(List::from_vec(copied))?;
+    }
+    Ok(all)
+}
+
+/// The names of elements with an index for each sort, where no name stands twice in its sort.
+pub fn element_index(alloc: Global, elements: &List<List<Name>>) -> Result<List<Names>, AllocError>
+    requires { (n : ℕ) → has_repeat (λ name. name) (elements_at elements.now n) ≡ false }
+    ensures { IfOk result (λ all. all ≡ elements.now) }
+{
+    let mut all = List::new(alloc);
+    for names in elements.as_slice() {
+        let indexed = extended(Names::new(alloc), names.as_slice())?;
+        all.push(indexed)?;
     }
     Ok(all)
 }

@@ -60,6 +60,15 @@ impl Names {
         }
     }
 
+    /// The number of the name, counted from 0, or `None` where it is none of them.
+    pub fn number(&self, name: &Name) -> Option<usize>
+        ensures value { result ≡ number_in self.now name.now }
+        ensures within { IfSome result (λ number. number < length self.now) }
+    {
+        equal_names();
+        self.names.get_index_of(name)
+    }
+
     /// One more name, which is none of them.
     pub(crate) fn push(&mut self, name: Name) -> Result<(), AllocError>
         requires { is_among self.old name ≡ false }

@@ -9,6 +9,7 @@
 //! ```
 #![tactic(auto)]
 
+mod admins;
 mod cups;
 mod enrolments;
 mod reading;

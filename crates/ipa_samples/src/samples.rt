@@ -1,5 +1,5 @@
 //! The samples, by their names.
-use crate::{cups, enrolments, small, thin, tournament};
+use crate::{admins, cups, enrolments, small, thin, tournament};
 
 /// A document that was worked out by hand. What contracts see of a sample is its name alone, and no text, so that
 /// proofs about its users stay short.
@@ -35,6 +35,12 @@ pub enum Sample {
     FarApart,
     /// The tournament in its canonical text: players, cups and matches, with all that an application has.
     Tournament,
+    /// A clause about one account, which is a constant: three conflicts.
+    Admins,
+    /// The admins where locking the account adds what it relies on.
+    AdminsMended,
+    /// A bound that picks the youngest fact.
+    Youngest,
     /// Two nodes may not both be leader.
     Leader,
     /// A drop takes a player out of a cup who is in a match of it.
@@ -92,6 +98,9 @@ impl Sample {
     // The text of a small application.
     fn small_text(self) -> &'static str {
         match self {
+            Sample::Admins => admins::ADMINS,
+            Sample::AdminsMended => admins::ADMINS_MENDED,
+            Sample::Youngest => admins::YOUNGEST,
             Sample::Leader => small::LEADER,
             Sample::Matches => small::MATCHES,
             Sample::ThreeWay => small::THREE_WAY,
@@ -128,6 +137,7 @@ impl Sample {
             Sample::JointRemoval => enrolments::JOINT_REMOVAL_REPORT,
             Sample::EnrolmentWild => "refused: line 12: wild add\n",
             Sample::EnrolmentBase => "refused: line 16: base clause c1(ann,open)\n",
+            Sample::Admins => admins::ADMINS_REPORT,
             Sample::Leader => small::LEADER_REPORT,
             Sample::Matches => small::MATCHES_REPORT,
             Sample::Wide | Sample::CupBeforeWide => "refused: too wide put put k 41209\n",

@@ -1,6 +1,6 @@
 //! Lines, by the word that they begin with.
 ghost use Rattle.std.specs.Prelude.{◌≡◌, List, IfOk, MatchOption};
-ghost use Rattle.ipa_forms.specs.Forms.{literal, number_alone};
+ghost use Rattle.ipa_forms.specs.Forms.{literal, number_alone, pick_words};
 ghost use Rattle.ipa_forms.specs.Lines.{limit, rule_alone, AreNames, IsFormRead, IsWhole};
 ghost use Rattle.ipa_forms.specs.Parts.{applied};
 ghost use Rattle.ipa_spec.specs.declared.names.Name.{Name};
@@ -10,7 +10,7 @@ use crate::keywords::Keyword;
 use crate::reading::lists::{Member, read_applied, read_joined};
 use crate::reading::separators::Separator;
 use crate::reading::words::{Words, take_name, take_number, take_sign, take_text};
-use ipa_spec::{List, Name, Rule};
+use ipa_spec::{List, Name, Pick, Rule};
 use ipa_text::TokenKind;
 use std::alloc::{AllocError, Global};
 
@@ -67,6 +67,19 @@ fn read_sort(words: &mut Words<'_>) -> Option<Form>
         return None;
     }
     Some(Form::Sort { name })
+}
+
+/// What follows `const`.
+fn read_const(alloc: Global, words: &mut Words<'_>) -> Result<Option<Form>, AllocError>
+    ensures { IfOk result (λ found. IsFormRead Keyword.Const words.old found) }
+{
+    let Some(constant) = Typed::read(alloc, words)? else {
+        return Ok(None);
+    };
+    if !words.is_empty() {
+        return Ok(None);
+    }
+    Ok(Some(Form::Const { constant }))
 }
 
 /// The rule at the end of a line.
@@ -227,8 +240,24 @@ fn read_need(alloc: Global, words: &mut Words<'_>) -> Result<Option<Form>, Alloc
     Ok(Some(Form::Need { literal }))
 }
 
-/// What follows the variables of a `bound`: the variable that is counted, and the most that there may be.
-fn read_limit(words: &mut Words<'_>) -> Option<(Name, u32)>
+/// What is picked, at the end of a line.
+fn read_pick(words: &mut Words<'_>) -> Option<Pick>
+    ensures { IsWhole pick_words words.old result }
+{
+    let pick = if take_text(words, "youngest") {
+        Pick::Youngest
+    } else {
+        Pick::Greatest
+    };
+    if !words.is_empty() {
+        return None;
+    }
+    Some(pick)
+}
+
+/// What follows the variables of a `bound`: the variable that is counted, the most that there may be, and
+/// what is picked.
+fn read_limit(words: &mut Words<'_>) -> Option<(Name, u32, Pick)>
     ensures { IsWhole limit words.old result }
 {
     if !take_text(words, "counts") {
@@ -238,8 +267,9 @@ fn read_limit(words: &mut Words<'_>) -> Option<(Name, u32)>
     if !take_text(words, "most") {
         return None;
     }
-    let most = read_count(words)?;
-    Some((counted, most))
+    let most = take_number(words)?;
+    let pick = read_pick(words)?;
+    Some((counted, most, pick))
 }
 
 /// What follows `bound`.
@@ -252,7 +282,7 @@ fn read_bound(alloc: Global, words: &mut Words<'_>) -> Result<Option<Form>, Allo
     let Some((predicate, vars)) = read_applied(alloc, words)? else {
         return Ok(None);
     };
-    let Some((counted, most)) = read_limit(words) else {
+    let Some((counted, most, pick)) = read_limit(words) else {
         return Ok(None);
     };
     Ok(Some(Form::Bound {
@@ -261,6 +291,7 @@ fn read_bound(alloc: Global, words: &mut Words<'_>) -> Result<Option<Form>, Allo
         vars,
         counted,
         most,
+        pick,
     }))
 }
 
@@ -287,6 +318,7 @@ pub(crate) fn read_line(
 {
     match keyword {
         Keyword::Sort => Ok(read_sort(words)),
+        Keyword::Const => read_const(alloc, words),
         Keyword::Pred => read_pred(alloc, words),
         Keyword::Clause => read_clause(alloc, words),
         Keyword::Op => read_op(alloc, words),

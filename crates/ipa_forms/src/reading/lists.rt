@@ -10,7 +10,7 @@ use ipa_text::TokenKind;
 use std::alloc::{AllocError, Global};
 
 /// What may stand in a list.
-pub(crate) trait Member: Drop {
+pub trait Member: Drop {
     ghost use Rattle.std.specs.Prelude.{List, IfOk};
     ghost use Rattle.ipa_forms.specs.Words.{Word};
     ghost use Rattle.ipa_forms.specs.Parts.{IsOpen, IsRead, IsUnmixed};
@@ -48,7 +48,7 @@ pub(crate) fn read_joined<M: Member>(
 }
 
 /// Takes members in parentheses from the front, with commas between them.
-pub(crate) fn read_list<M: Member>(
+pub fn read_list<M: Member>(
     alloc: Global,
     words: &mut Words<'_>,
 ) -> Result<Option<List<M>>, AllocError>

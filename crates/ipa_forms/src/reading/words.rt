@@ -12,7 +12,7 @@ use std::marker::Model;
 
 /// The words of a line that are still to be read.
 #[derive(Drop)]
-pub(crate) struct Words<'a> {
+pub struct Words<'a> {
     line: &'a [u8],
     tokens: &'a [Token],
 }
@@ -40,7 +40,7 @@ fn bytes_of<'a>(line: &'a [u8], token: Token) -> &'a [u8]
 
 impl<'a> Words<'a> {
     /// The words of a line, which is cut into these tokens.
-    pub(crate) fn new(line: &'a [u8], tokens: &'a [Token]) -> Words<'a>
+    pub fn new(line: &'a [u8], tokens: &'a [Token]) -> Words<'a>
         requires { All (IsToken line.now) tokens.now }
         ensures { result ≡ words_in line.now tokens.now }
     {
@@ -48,14 +48,14 @@ impl<'a> Words<'a> {
     }
 
     /// Whether no word is left.
-    pub(crate) fn is_empty(&self) -> bool
+    pub fn is_empty(&self) -> bool
         ensures { IsTrue result ↔ (self.now ≡ []) }
     {
         self.tokens.is_empty()
     }
 
     /// The kind and the bytes of the first word.
-    pub(crate) fn first(&self) -> Option<(TokenKind, &'a [u8])>
+    pub fn first(&self) -> Option<(TokenKind, &'a [u8])>
         ensures { MatchOption result (self.now ≡ []) (λ first. IsFirst self.now first.0 first.1.now) }
     {
         let token = *self.tokens.first()?;
@@ -73,7 +73,7 @@ impl<'a> Words<'a> {
 }
 
 /// Takes a name from the front.
-pub(crate) fn take_name(words: &mut Words<'_>) -> Option<Name>
+pub fn take_name(words: &mut Words<'_>) -> Option<Name>
     ensures { IsRead name_alone words.old result words.new }
 {
     let (kind, bytes) = words.first()?;
@@ -86,7 +86,7 @@ pub(crate) fn take_name(words: &mut Words<'_>) -> Option<Name>
 }
 
 /// Takes a number from the front.
-pub(crate) fn take_number(words: &mut Words<'_>) -> Option<u32>
+pub fn take_number(words: &mut Words<'_>) -> Option<u32>
     ensures { IsRead number_alone words.old result words.new }
 {
     let (kind, bytes) = words.first()?;
@@ -114,7 +114,7 @@ pub(crate) fn take_sign(words: &mut Words<'_>, wanted: TokenKind) -> bool
 }
 
 /// Takes this text from the front, if it stands there.
-pub(crate) fn take_text(words: &mut Words<'_>, wanted: &str) -> bool
+pub fn take_text(words: &mut Words<'_>, wanted: &str) -> bool
     ensures { IsTaken (text wanted.now) words.old result words.new }
 {
     let Some((kind, bytes)) = words.first() else {

@@ -5,4 +5,4 @@ use Rattle.ipa_canonical.specs.Canonical.{effect_form}
 use Rattle.ipa_canonical.proofs.canonical.write_effects.Given as goal
 
 abbrev pub invariant-loop-effect : goal.invariant-loop-effect
-invariant-loop-effect l = l.page ≡ l.initial.page ++ flat_map (λ x. text_of (effect_form l.predicates l.own l.vars x)) (take l.effect-index l.effects)
+invariant-loop-effect l = l.page ≡ l.initial.page ++ flat_map (λ x. text_of (effect_form l.spec l.own l.vars x)) (take l.effect-index l.effects)

@@ -5,4 +5,4 @@ use Rattle.ipa_canonical.specs.Canonical.{operation_forms}
 use Rattle.ipa_canonical.proofs.canonical.write_operations.Given as goal
 
 abbrev pub invariant-loop-operation : goal.invariant-loop-operation
-invariant-loop-operation l = l.page ≡ l.initial.page ++ flat_map (λ x. flat_map text_of (operation_forms l.sorts l.predicates x)) (take l.operation-index l.operations)
+invariant-loop-operation l = l.page ≡ l.initial.page ++ flat_map (λ x. flat_map text_of (operation_forms l.spec x)) (take l.operation-index l.operations)

@@ -1,3 +1,4 @@
+use Rattle.std.proofs.Common.{◌≡◌, []}
 use Rattle.std.proofs.lemmas.List.Elements.{recursion_from_All}
 use Rattle.ipa_spec.specs.FaultlessFits.{IsFit-from_faultless}
 use Rattle.ipa_spec.specs.Limits.{IsFaultless}
@@ -12,14 +13,14 @@ use Rattle.ipa_canonical.proofs.rereading.is_read_back.Goals as goal
 
 pub returns : goal.returns
 returns c =
-    let printed : (s : Specification) → IsFaultless s → IsShaped s → HasLiterals s → Printed s = λ s h shaped literals. record {
+    let printed : (s : Specification) → IsFaultless s → IsShaped s → HasLiterals s → s.constants ≡ [] → Printed s = λ s h shaped literals none. record {
       said = says_each (canonical_text s) (lines_of (canonical_text s)) (forms_of s) (c.canonical_lines.ensures.lines s h literals) (recursion_from_All (λ f. IsSaidBy (line_of f) f) (forms_of s) (c.canonical_lines.ensures.said s h literals));
-      accepted = c.none_refused.ensures s h shaped;
-      back = c.declares_itself.ensures s h shaped;
+      accepted = c.none_refused.ensures s h shaped none;
+      back = c.declares_itself.ensures s h shaped none;
       few = (IsFit-from_faultless s h).clause_count;
     } in
     record {
-      exactly = λ s h shaped literals. (kept_back s, read_back s (printed s h shaped literals));
-      either = λ s h shaped literals. read_or_refused s (printed s h shaped literals);
-      refusals = λ s line kind h shaped literals. that_refusal c.one_reading.ensures.refusals c.one_reading.ensures.apart s (printed s h shaped literals) line kind;
+      exactly = λ s h shaped literals none. (kept_back s, read_back s none (printed s h shaped literals none));
+      either = λ s h shaped literals none. read_or_refused s none (printed s h shaped literals none);
+      refusals = λ s line kind h shaped literals none. that_refusal c.one_reading.ensures.refusals c.one_reading.ensures.apart s none (printed s h shaped literals none) line kind;
     }

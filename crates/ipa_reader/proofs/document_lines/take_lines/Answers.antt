@@ -2,6 +2,18 @@ use Rattle.std.proofs.Common.{◌++◌, ◌∷◌, [], append_assoc, ap, ◌∙�
 use Rattle.ipa_reader.proofs.ReadingLemmas.{read_more, fault_here}
 use Rattle.ipa_reader.proofs.document_lines.take_lines.Goals as goal
 
+pub loop-line-init : goal.loop-line-init
+loop-line-init c = record {
+  read = record {
+    forms = [];
+    said = tt;
+    accepted = record { each = λ k form e. cc };
+    standing_is = c.first_standing-standing.ensures.value;
+    within = c.first_standing-standing.ensures.within;
+  };
+  left = cc (c.into_iter-line-iterator.ensures.into_iter_gives, c.new-line-items.ensures.lines);
+}
+
 pub loop-line-preserved : goal.loop-line-preserved
 loop-line-preserved c = record {
   read = read_more c.args.bytes.now c.loop-line.yielded c.in-Some.line c.loop-line.standing c.in-Ok.next c.loop-line.invariant.read c.in-Ok.ensures.takes;
