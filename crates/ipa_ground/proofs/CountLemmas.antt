@@ -1,35 +1,87 @@
 -- Counting patterns.
-use Rattle.std.proofs.Common.{◌≡◌, ℕ, zero, suc, ◌+◌, ◌*◌, ◌^◌, ◌<◌, ◌≤◌, ◌≢◌, ◌==◌, cond, ltb, List, [], ◌∷◌, length, refl, sym, ap, ◌∙◌, subst, arith, inl, inr, add-one}
+use Rattle.std.proofs.Common.{◌≡◌, ℕ, zero, suc, ◌+◌, ◌*◌, ◌^◌, ◌<◌, ◌≤◌, ◌≢◌, ◌==◌, cond, ltb, List, [], ◌∷◌, length, replicate, set, refl, sym, ap, ◌∙◌, subst, arith, inl, inr, add-one}
 use Rattle.std.specs.List.{slice_index, count_by}
 use Rattle.std.proofs.lemmas.Bool.{cases_lt, cases_eq, cond-true, cond-false, eq-eqb, ne_eqb, lt-ltb, le-ltb}
-use Rattle.std.proofs.lemmas.List.{length-append, length-map, get_or-replicate}
+use Rattle.std.proofs.lemmas.List.{length-append, length-map, length-replicate, length-set, get_or-replicate, get_or-set_same, get_or-set_other}
 use Rattle.std.proofs.lemmas.List.Recursion.{is_count_by}
 use Rattle.std.proofs.lemmas.Nat.{mul-le, pow-add}
+use Rattle.std.proofs.lemmas.Grind.{pow_more}
 use Rattle.std.proofs.Math.Nat.{pow-le-pow_right}
 use Rattle.ipa_logic.specs.Facts.{Universe, size_of}
 use Rattle.ipa_ground.specs.Enumeration.{branches}
 use Rattle.ipa_ground.specs.BranchLaws.{branch, branches-suc, length-branches}
-use Rattle.ipa_ground.specs.Patterns.{AreSorts, unused, opened, patterns_from, patterns}
-use Rattle.ipa_ground.specs.PatternCounts.{ways, variables_of, product_below}
+use Rattle.ipa_ground.specs.Patterns.{AreConstants, AreSorts, opened, patterns_from, patterns}
+use Rattle.ipa_ground.specs.PatternCounts.{ways, AreWays, variables_of, product_below}
 use Rattle.ipa_ground.specs.ClassLaws.{AreSortsOf, length-opened, size-opened, size-other, opened-in_use}
 
--- the table of the numbers of set partitions
-pub table-ways : (n : ℕ) → n ≤ 12 → slice_index (1 ∷ 1 ∷ 2 ∷ 5 ∷ 15 ∷ 52 ∷ 203 ∷ 877 ∷ 4140 ∷ 21147 ∷ 115975 ∷ 678570 ∷ 4213597 ∷ []) n ≡ ways n 0
+-- no variable, and one variable more
+ways-none : (k : ℕ) → ways 0 k ≡ 1
 unfolding ways
-table-ways zero l = refl
-table-ways (suc zero) l = refl
-table-ways (suc (suc zero)) l = refl
-table-ways (suc (suc (suc zero))) l = refl
-table-ways (suc (suc (suc (suc zero)))) l = refl
-table-ways (suc (suc (suc (suc (suc zero))))) l = refl
-table-ways (suc (suc (suc (suc (suc (suc zero)))))) l = refl
-table-ways (suc (suc (suc (suc (suc (suc (suc zero))))))) l = refl
-table-ways (suc (suc (suc (suc (suc (suc (suc (suc zero)))))))) l = refl
-table-ways (suc (suc (suc (suc (suc (suc (suc (suc (suc zero))))))))) l = refl
-table-ways (suc (suc (suc (suc (suc (suc (suc (suc (suc (suc zero)))))))))) l = refl
-table-ways (suc (suc (suc (suc (suc (suc (suc (suc (suc (suc (suc zero))))))))))) l = refl
-table-ways (suc (suc (suc (suc (suc (suc (suc (suc (suc (suc (suc (suc zero)))))))))))) l = refl
-table-ways (suc (suc (suc (suc (suc (suc (suc (suc (suc (suc (suc (suc (suc n))))))))))))) l = absurd (omega arith)
+ways-none k = refl
+
+ways-next : (n k : ℕ) → ways (n + 1) k ≡ k * ways n k + ways n (k + 1)
+unfolding ways
+ways-next n k = ap (λ m. ways m k) (add-one n)
+
+-- no variable has more than sixteen classes to choose from
+pub ways-bound : (n k : ℕ) → k + n ≤ 16 → ways n k ≤ 16 ^ n
+unfolding ways
+ways-bound zero k l = omega arith
+ways-bound (suc n) k l =
+    let here = ways-bound n k (omega arith) in
+    let there = ways-bound n (k + 1) (omega arith) in
+    let times : k * ways n k ≤ 15 * 16 ^ n = mul-le k (ways n k) 15 (16 ^ n) (omega arith) here in
+    omega (arith, pow_more 16 n)
+
+pub power-sixteen : (n : ℕ) → n ≤ 12 → 16 ^ n ≤ 16 ^ 12
+power-sixteen n l = pow-le-pow_right {n = 16} (omega arith) l
+
+-- the row for no variable
+pub ways-first : AreWays (replicate 17 1) 0
+ways-first = record {
+  width = length-replicate {A = ℕ} 17 1;
+  each = λ k l. get_or-replicate 17 k 1 0 (omega arith) ∙ sym (ways-none k);
+}
+
+-- the first places of a row for n variables are those for one more
+pub record AreNextBelow (row : List ℕ) (n k : ℕ) : Type 0 where
+  pub width : length row ≡ 17
+  pub next : (j : ℕ) → j < k → slice_index row j ≡ ways (n + 1) j
+  pub rest : (j : ℕ) → k ≤ j → j + n ≤ 16 → slice_index row j ≡ ways n j
+
+pub next-none : (row : List ℕ) (n : ℕ) → AreWays row n → AreNextBelow row n 0
+next-none row n h = record { width = h.width; next = λ j l. absurd (omega arith); rest = λ j l m. h.each j m }
+
+-- the next place of it, which fits
+next-value : (row : List ℕ) (n k : ℕ) → k + n < 16 → AreNextBelow row n k →
+    k * slice_index row k + slice_index row (k + 1) ≡ ways (n + 1) k
+next-value row n k few h =
+    let here = h.rest k (omega arith) (omega arith) in
+    let there = h.rest (k + 1) (omega arith) (omega arith) in
+    (λ i. k * here i + there i) ∙ sym (ways-next n k)
+
+pub next-fits : (row : List ℕ) (n k : ℕ) → n < 12 → k + n < 16 → AreNextBelow row n k →
+    k * slice_index row k + slice_index row (k + 1) ≤ 16 ^ 12
+next-fits row n k below few h =
+    omega (arith, next-value row n k few h, ways-bound (n + 1) k (omega arith), power-sixteen (n + 1) (omega arith))
+
+pub next-more : (row : List ℕ) (n k : ℕ) → k + n < 16 → AreNextBelow row n k →
+    AreNextBelow (set row k (k * slice_index row k + slice_index row (k + 1))) n (k + 1)
+next-more row n k few h = record {
+  width = length-set row k (k * slice_index row k + slice_index row (k + 1)) ∙ h.width;
+  next = λ j l. elim (cases_eq j k) [
+    | inl same ↦ ap (slice_index (set row k (k * slice_index row k + slice_index row (k + 1)))) same
+        ∙ (get_or-set_same row k (k * slice_index row k + slice_index row (k + 1)) 0 (omega (arith, h.width))
+        ∙ (next-value row n k few h ∙ ap (ways (n + 1)) (sym same)))
+    | inr other ↦ get_or-set_other row k j (k * slice_index row k + slice_index row (k + 1)) 0 other
+        ∙ h.next j (omega arith)
+  ];
+  rest = λ j l m. (let other : j ≢ k = omega arith in
+      get_or-set_other row k j (k * slice_index row k + slice_index row (k + 1)) 0 other ∙ h.rest j (omega arith) m);
+}
+
+pub next-all : (row : List ℕ) (n k : ℕ) → 16 ≤ k + n → AreNextBelow row n k → AreWays row (n + 1)
+next-all row n k all h = record { width = h.width; each = λ j l. h.next j (omega arith) }
 
 -- equal factors
 product-same : (f g : ℕ → ℕ) (n : ℕ) → ((j : ℕ) → j < n → f j ≡ g j) → product_below f n ≡ product_below g n
@@ -111,11 +163,6 @@ length-patterns_from used (s ∷ sorts) wide h =
     ∙ sym (product-split (factor used (s ∷ sorts)) (factor used sorts) (factor (opened used s (size_of used s)) sorts) 8 s (size_of used s) (omega arith)
     (factor-other used s sorts) (factor-opened used s sorts) (factor-same used s sorts inside)))
 
--- the number of patterns: the product over the sorts of the numbers of set partitions
-pub length-patterns : (sorts : List ℕ) → AreSorts sorts → length (patterns sorts) ≡ product_below (λ sort. ways (variables_of sort sorts) 0) 8
-length-patterns sorts h = length-patterns_from unused sorts refl (λ i sort e. h.below i sort e)
-    ∙ product-same (factor unused sorts) (λ sort. ways (variables_of sort sorts) 0) 8 (λ j l. ap (ways (variables_of j sorts)) (get_or-replicate 8 j 0 0 l))
-
 -- the variables of a sort are those that are counted
 pub count-variables : (sort : ℕ) (sorts : List ℕ) → count_by (λ s. s == sort) sorts ≡ variables_of sort sorts
 count-variables sort sorts = sym (is_count_by (variables_of sort) (λ s. s == sort) refl (λ _ _. refl) sorts)
@@ -163,13 +210,6 @@ variables_below-all sort (s ∷ sorts) =
       | inr ge ↦ omega (arith, cond-false (ltb s sort) (1 + variables_below sort sorts) (variables_below sort sorts) (le-ltb s sort ge))
     ]
 
--- products of at most twelve factors twelve
-pub count-bound : (count w a b : ℕ) → count ≤ 12 ^ a → w ≤ 12 ^ b → count * w ≤ 12 ^ (a + b)
-count-bound count w a b l m = rw (pow-add 12 a b) (mul-le count w (12 ^ a) (12 ^ b) l m)
-
-pub power-twelve : (n : ℕ) → n ≤ 12 → 12 ^ n ≤ 12 ^ 12
-power-twelve n l = pow-le-pow_right {n = 12} (omega arith) l
-
 pub product-none : (f : ℕ → ℕ) → product_below f 0 ≡ 1
 unfolding product_below
 product-none f = refl
@@ -179,23 +219,35 @@ unfolding product_below
 product-more f n = ap (product_below f) (add-one n)
 
 -- one sort more is counted
-pub record CountsBelow (sorts : List ℕ) (sort count : ℕ) : Type 0 where
-  pub is : count ≡ product_below (λ s. ways (variables_of s sorts) 0) sort
-  pub bound : count ≤ 12 ^ variables_below sort sorts
+pub record CountsBelow (constants : Universe) (sorts : List ℕ) (sort count : ℕ) : Type 0 where
+  pub is : count ≡ product_below (factor constants sorts) sort
+  pub bound : count ≤ 16 ^ variables_below sort sorts
 
-pub counts-none : (sorts : List ℕ) → CountsBelow sorts 0 1
-counts-none sorts = record { is = sym (product-none _); bound = rw (variables_below-none sorts) (omega arith) }
+pub counts-none : (constants : Universe) (sorts : List ℕ) → CountsBelow constants sorts 0 1
+counts-none constants sorts = record { is = sym (product-none _); bound = rw (variables_below-none sorts) (omega arith) }
 
-pub counts-more : (sorts : List ℕ) (sort count variables w : ℕ) → variables ≡ count_by (λ s. s == sort) sorts → w ≡ ways variables 0 → w ≤ 12 ^ variables → CountsBelow sorts sort count → CountsBelow sorts (sort + 1) (count * w)
-counts-more sorts sort count variables w v e l h =
+pub counts-more : (constants : Universe) (sorts : List ℕ) (sort count variables w : ℕ) →
+    variables ≡ count_by (λ s. s == sort) sorts → w ≡ ways variables (size_of constants sort) → w ≤ 16 ^ variables →
+    CountsBelow constants sorts sort count → CountsBelow constants sorts (sort + 1) (count * w)
+counts-more constants sorts sort count variables w v e l h =
     let all : variables ≡ variables_of sort sorts = v ∙ count-variables sort sorts in
+    let both : count * w ≤ 16 ^ (variables_below sort sorts + variables) =
+    rw (pow-add 16 (variables_below sort sorts) variables)
+    (mul-le count w (16 ^ variables_below sort sorts) (16 ^ variables) h.bound l) in
     record {
-      is = (λ i. h.is i * (e ∙ ap (λ n. ways n 0) all) i) ∙ sym (product-more (λ s. ways (variables_of s sorts) 0) sort);
-      bound = subst (λ n. count * w ≤ 12 ^ n) (ap (λ n. variables_below sort sorts + n) all ∙ sym (variables_below-more sort sorts)) (count-bound count w (variables_below sort sorts) variables h.bound l);
+      is = (λ i. h.is i * (e ∙ ap (λ n. ways n (size_of constants sort)) all) i)
+          ∙ sym (product-more (factor constants sorts) sort);
+      bound = subst (λ n. count * w ≤ 16 ^ n)
+          (ap (λ n. variables_below sort sorts + n) all ∙ sym (variables_below-more sort sorts)) both;
     }
 
-pub counts-fit : (sorts : List ℕ) (sort count : ℕ) → length sorts ≤ 12 → CountsBelow sorts sort count → count ≤ 12 ^ 12
-counts-fit sorts sort count short h = omega (arith, h.bound, power-twelve (variables_below sort sorts) (omega (arith, variables_below-all sort sorts)))
+pub counts-fit : (constants : Universe) (sorts : List ℕ) (sort count : ℕ) → length sorts ≤ 12 →
+    CountsBelow constants sorts sort count → count ≤ 16 ^ 12
+counts-fit constants sorts sort count short h =
+    omega (arith, h.bound, power-sixteen (variables_below sort sorts) (omega (arith, variables_below-all sort sorts)))
 
-pub counts-all : (sorts : List ℕ) (sort count : ℕ) → AreSorts sorts → sort ≡ 8 → CountsBelow sorts sort count → count ≡ length (patterns sorts)
-counts-all sorts sort count h e c = c.is ∙ (ap (product_below (λ s. ways (variables_of s sorts) 0)) e ∙ sym (length-patterns sorts h))
+pub counts-all : (constants : Universe) (sorts : List ℕ) (sort count : ℕ) → AreConstants constants → AreSorts sorts →
+    sort ≡ 8 → CountsBelow constants sorts sort count → count ≡ length (patterns constants sorts)
+counts-all constants sorts sort count are h e c =
+    c.is ∙ (ap (product_below (factor constants sorts)) e
+    ∙ sym (length-patterns_from constants sorts are.width (λ i q f. omega (arith, are.width, h.below i q f))))

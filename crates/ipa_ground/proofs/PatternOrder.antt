@@ -12,8 +12,8 @@ use Rattle.ipa_logic.specs.Facts.{Universe, size_of}
 use Rattle.ipa_ground.specs.Enumeration.{IsListed}
 use Rattle.ipa_ground.specs.ListLaws.{Listed-cons, Rises-head, Rises-tail}
 use Rattle.ipa_ground.specs.BranchLaws.{less-from_lt}
-use Rattle.ipa_ground.specs.Patterns.{unused, opened, IsPatternFrom, IsPattern, used_after, patterns}
-use Rattle.ipa_ground.specs.PatternLaws.{Listed-patterns, listed_pattern, Rises-patterns, length-pattern_from, length-pattern}
+use Rattle.ipa_ground.specs.Patterns.{opened, IsPatternFrom, IsPattern, used_after, patterns}
+use Rattle.ipa_ground.specs.PatternLaws.{Listed-patterns, listed_pattern, Rises-patterns, length-pattern_from}
 use Rattle.ipa_ground.specs.PatternValues.{is_before, left, later}
 
 -- how a first class decides
@@ -167,18 +167,31 @@ raised-next used (s ∷ sorts) (c ∷ classes) (n ∷ ns) (x ∷ q) (suc place) 
     ]
 
 -- from a pattern on there are it and what is behind it
-pub left-one : (sorts classes : List ℕ) → IsPattern sorts classes → left sorts classes ≡ classes ∷ later sorts classes
-left-one sorts classes p = let listed = Listed-patterns sorts classes p in from-one (patterns sorts) listed.place classes (Rises-patterns sorts) listed.there
+pub left-one : (constants : Universe) (sorts classes : List ℕ) → IsPattern constants sorts classes →
+    left constants sorts classes ≡ classes ∷ later constants sorts classes
+left-one constants sorts classes p =
+    let listed = Listed-patterns constants sorts classes p in
+    from-one (patterns constants sorts) listed.place classes (Rises-patterns constants sorts) listed.there
 
 -- behind a pattern come those from the raised one on
-pub later-raised : (sorts classes ns : List ℕ) (place : ℕ) → IsRaised unused sorts classes ns place → later sorts classes ≡ left sorts ns
-later-raised sorts classes ns place h = filter-listed _ _ (patterns sorts) (λ q l. raised-next unused sorts classes ns q place h (listed_pattern sorts q l))
+pub later-raised : (constants : Universe) (sorts classes ns : List ℕ) (place : ℕ) →
+    IsRaised constants sorts classes ns place → later constants sorts classes ≡ left constants sorts ns
+later-raised constants sorts classes ns place h =
+    filter-listed _ _ (patterns constants sorts)
+    (λ q l. raised-next constants sorts classes ns q place h (listed_pattern constants sorts q l))
 
 -- behind one whose classes are the newest come none
-pub later-newest : (sorts classes : List ℕ) → AreNewest unused sorts classes → later sorts classes ≡ []
-later-newest sorts classes h = filter-listed _ (λ _. false) (patterns sorts) (λ q l. newest-last unused sorts classes q h (listed_pattern sorts q l)) ∙ filter-none (patterns sorts)
+pub later-newest : (constants : Universe) (sorts classes : List ℕ) → AreNewest constants sorts classes →
+    later constants sorts classes ≡ []
+later-newest constants sorts classes h =
+    filter-listed _ (λ _. false) (patterns constants sorts)
+    (λ q l. newest-last constants sorts classes q h (listed_pattern constants sorts q l))
+    ∙ filter-none (patterns constants sorts)
 
 -- from the first pattern on there are all
-pub left-first : (sorts zeros : List ℕ) → length zeros ≡ length sorts → ((j : ℕ) → j < length zeros → slice_index zeros j ≡ 0) → left sorts zeros ≡ patterns sorts
-left-first sorts zeros e h = filter-listed _ (λ _. true) (patterns sorts)
-    (λ q l. ap not (first-least q zeros (length-pattern sorts q (listed_pattern sorts q l) ∙ sym e) h)) ∙ filter-all (patterns sorts)
+pub left-first : (constants : Universe) (sorts zeros : List ℕ) → length zeros ≡ length sorts →
+    ((j : ℕ) → j < length zeros → slice_index zeros j ≡ 0) → left constants sorts zeros ≡ patterns constants sorts
+left-first constants sorts zeros e h = filter-listed _ (λ _. true) (patterns constants sorts)
+    (λ q l. ap not (first-least q zeros
+    (length-pattern_from constants sorts q (listed_pattern constants sorts q l) ∙ sym e) h))
+    ∙ filter-all (patterns constants sorts)

@@ -96,12 +96,12 @@ get-facts_of number p universe f short same h =
     get-map (λ (elements : List ℕ). record { predicate = number; args = three elements }) (tuples (place_sizes p universe)) (tuple_place (place_sizes p universe) (take p.arity f.args)) (take p.arity f.args)
     (get-tuples (place_sizes p universe) (take p.arity f.args) tuple.0) ∙ ap (λ (g : Fact). Some g) is
 
--- at most three sizes of at most twelve
-pub power-step : (n count size : ℕ) → count ≤ 12 ^ n → size ≤ 12 → count * size ≤ 12 ^ (n + 1)
-power-step n count size l s = rw (pow_more 12 n) (mul-le count size (12 ^ n) 12 l s)
+-- at most three sizes of at most sixteen
+pub power-step : (n count size : ℕ) → count ≤ 16 ^ n → size ≤ 16 → count * size ≤ 16 ^ (n + 1)
+power-step n count size l s = rw (pow_more 16 n) (mul-le count size (16 ^ n) 16 l s)
 
-pub place-step : (n number size x : ℕ) → number < 12 ^ n → size ≤ 12 → x < 12 → number * size + x < 12 ^ (n + 1)
-place-step n number size x l s h = rw (pow_more 12 n) (let bound : number * size ≤ number * 12 = mul-le number size number 12 (omega arith) s in omega arith)
+pub place-step : (n number size x : ℕ) → number < 16 ^ n → size ≤ 16 → x < 16 → number * size + x < 16 ^ (n + 1)
+place-step n number size x l s h = rw (pow_more 16 n) (let bound : number * size ≤ number * 16 = mul-le number size number 16 (omega arith) s in omega arith)
 
 -- the count after one place more
 pub count-next : (universe : Universe) (p : Predicate) (n count size : ℕ) → count ≡ tuple_count (first_sizes universe p n) → size ≡ size_in universe p n
@@ -120,7 +120,7 @@ number-next universe p args n number size x e s l at =
 pub record StartsBelow (starts : List ℕ) (ps : List Predicate) (universe : Universe) (n : ℕ) : Type 0 where
   pub width : length starts ≡ 33
   pub numbers : (k : ℕ) → k ≤ n → slice_index starts k ≡ length (facts_from 0 (take k ps) universe)
-  pub bound : (k : ℕ) → k ≤ n → slice_index starts k ≤ k * 1728
+  pub bound : (k : ℕ) → k ≤ n → slice_index starts k ≤ k * 4096
 
 pub starts-none : (ps : List Predicate) (universe : Universe) → StartsBelow (replicate 33 0) ps universe 0
 starts-none ps universe = record { width = refl; numbers = λ k l. first k (omega arith); bound = λ k l. low k (omega arith) }
@@ -129,12 +129,12 @@ starts-none ps universe = record { width = refl; numbers = λ k l. first k (omeg
     first zero e = refl
     first (suc k) e = absurd (omega arith)
 
-    low : (k : ℕ) → k ≡ 0 → slice_index (replicate 33 0) k ≤ k * 1728
+    low : (k : ℕ) → k ≡ 0 → slice_index (replicate 33 0) k ≤ k * 4096
     low zero e = omega arith
     low (suc k) e = absurd (omega arith)
 
 pub starts-more : (starts : List ℕ) (ps : List Predicate) (universe : Universe) (n count : ℕ) (p : Predicate) → n < 32 → n < length ps → p ≡ get_or ps n p
-    → count ≡ tuple_count (place_sizes p universe) → count ≤ 1728 → StartsBelow starts ps universe n → StartsBelow (set starts (n + 1) (slice_index starts n + count)) ps universe (n + 1)
+    → count ≡ tuple_count (place_sizes p universe) → count ≤ 4096 → StartsBelow starts ps universe n → StartsBelow (set starts (n + 1) (slice_index starts n + count)) ps universe (n + 1)
 starts-more starts ps universe n count p small l at e few h =
     let inside : n + 1 < length starts = omega (arith, h.width) in
     let here : slice_index (set starts (n + 1) (slice_index starts n + count)) (n + 1) ≡ slice_index starts n + count = get_or-set_same starts (n + 1) (slice_index starts n + count) 0 inside in

@@ -14,7 +14,7 @@ use Rattle.ipa_spec.specs.Actions.{sorts_of_vars}
 use Rattle.ipa_spec.specs.declared.clauses.Clause.{Clause}
 use Rattle.ipa_spec.specs.declared.clauses.Literal.{Literal}
 use Rattle.ipa_spec.specs.Fits.{IsFit}
-use Rattle.ipa_logic.specs.Facts.{Universe}
+use Rattle.ipa_logic.specs.Facts.{Universe, IsUniverse}
 use Rattle.ipa_logic.specs.Truth.{instance_true, literal_true as holds}
 use Rattle.ipa_logic.specs.declared.facts.Fact.{Fact}
 use Rattle.ipa_sat.specs.Formula.{Formula, Satisfies, clause_true, literal_true as lit_true}
@@ -26,10 +26,11 @@ use Rattle.ipa_ground.specs.Places.{AreSmall, AreStarts}
 use Rattle.ipa_ground.specs.declared.grounding.Ground.{Ground}
 use Rattle.ipa_ground.specs.declared.grounding.Ground.TheVariants.{True, False, Depends}
 
--- what grounding stands on: a fitting specification over a small universe, the table of starts, and a variable for
+-- what grounding stands on: a fitting specification, a small universe of it, the table of starts, and a variable for
 -- each fact
 pub record IsReady (s : Specification) (universe : Universe) (starts : List ℕ) (first limit : ℕ) : Type 0 where
   pub fit : IsFit s
+  pub sizes : IsUniverse s universe
   pub small : AreSmall universe
   pub table : AreStarts starts s.predicates universe
   pub room : first + length (facts_over s.predicates universe) ≤ limit

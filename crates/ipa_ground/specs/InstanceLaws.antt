@@ -1,16 +1,13 @@
 -- What fits in the clauses of a specification and in their instances.
 --
---   IsUniverse-any        all sizes are a universe of a specification without constants
 --   ClauseFits-declared   a clause of a fitting specification fits
 --   FactFits-literal      the fact of a literal that fits is one over the universe, at values over it
 --   FactFits-read         and so is that of a literal that is read from a clause that fits
-use Rattle.std.proofs.Common.{◌≡◌, ℕ, ◌<◌, List, length, Some, refl, ap, arith, subst, slice_get, get_or}
+use Rattle.std.proofs.Common.{◌≡◌, ℕ, ◌<◌, List, length, Some, refl, subst, slice_get, get_or}
 use Rattle.std.proofs.lemmas.Option.{slice_get_read}
 use Rattle.ipa_spec.specs.Actions.{sorts_of_vars}
-use Rattle.ipa_spec.specs.Constants.{constants_of}
 use Rattle.ipa_spec.specs.Fits.{LiteralFits, IsFit}
 use Rattle.ipa_spec.specs.declared.specification.Specification.{Specification}
-use Rattle.ipa_spec.specs.declared.constants.Constant.{Constant}
 use Rattle.ipa_spec.specs.declared.clauses.Clause.{Clause}
 use Rattle.ipa_spec.specs.declared.clauses.Literal.{Literal}
 use Rattle.ipa_spec.specs.declared.clauses.Literal.TheVariants.{Holds, Fails, Same, Differ}
@@ -18,13 +15,6 @@ use Rattle.ipa_logic.specs.Facts.{Universe, IsUniverse}
 use Rattle.ipa_logic.specs.FitLaws.{IsFact-fact_of}
 use Rattle.ipa_logic.specs.Truth.{IsOver}
 use Rattle.ipa_ground.specs.Instances.{ClauseFits, FactFits}
-
--- all sizes are a universe of a specification without constants
-pub IsUniverse-any : (s : Specification) (universe : Universe) → IsFit s → IsUniverse s universe
-IsUniverse-any s universe fit = record {
-  constants = λ sort. let none : length (constants_of s.constants sort) ≡ 0 =
-      ap (λ (cs : List Constant). length (constants_of cs sort)) fit.no_constants in omega arith;
-}
 
 -- a clause of a fitting specification fits
 pub ClauseFits-declared : (s : Specification) (k : ℕ) (c : Clause) → IsFit s → slice_get s.clauses k ≡ Some c →
@@ -47,9 +37,9 @@ FactFits-literal s universe sorts values (Differ v w) large fits over = tt
 
 -- and so is that of a literal that is read from a clause that fits
 pub FactFits-read : (s : Specification) (universe : Universe) (values : List ℕ) (c : Clause) (k : ℕ) (l : Literal)
-    (items : List Literal) → IsFit s → ClauseFits s c → IsOver universe (sorts_of_vars c.vars) values →
+    (items : List Literal) → IsUniverse s universe → ClauseFits s c → IsOver universe (sorts_of_vars c.vars) values →
     items ≡ c.literals → k < length items → l ≡ get_or items k l → FactFits s universe values l
-FactFits-read s universe values c k l items fit fits over same inside at =
-    FactFits-literal s universe (sorts_of_vars c.vars) values l (IsUniverse-any s universe fit)
+FactFits-read s universe values c k l items large fits over same inside at =
+    FactFits-literal s universe (sorts_of_vars c.vars) values l large
     (fits.literals k l (subst (λ (xs : List Literal). slice_get xs k ≡ Some l) same
     (slice_get_read items (length items) k l refl inside at))) over

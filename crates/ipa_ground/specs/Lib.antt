@@ -14,6 +14,7 @@ pub mod GroundingSteps
 pub mod GroundingLaws
 pub mod ClassLaws
 pub mod SamePattern
+pub mod EqualityLaws
 pub mod PatternLaws
 pub mod PatternValues
 pub mod Cursors

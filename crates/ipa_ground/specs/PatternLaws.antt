@@ -2,7 +2,7 @@
 --
 --   Listed-patterns, listed_pattern   a pattern is listed, and what is listed is one
 --   Rises-patterns                    patterns stand in lexicographic order, each once
---   length-pattern                    a pattern has a class for each variable
+--   length-pattern_from               a pattern has a class for each variable
 use Rattle.std.proofs.Common.{◌≡◌, ℕ, zero, suc, ◌+◌, List, [], ◌∷◌, length, Some, refl, ap, subst, arith, slice_get}
 use Rattle.std.specs.List.Sorted.{IsStrictlySortedBy}
 use Rattle.std.specs.Ordering.{nat_cmp}
@@ -12,7 +12,7 @@ use Rattle.ipa_logic.specs.Facts.{Universe, size_of}
 use Rattle.ipa_ground.specs.Enumeration.{IsListed}
 use Rattle.ipa_ground.specs.ListLaws.{Rises-one}
 use Rattle.ipa_ground.specs.BranchLaws.{Listed-branches, listed_branch, Rises-branches}
-use Rattle.ipa_ground.specs.Patterns.{unused, opened, IsPatternFrom, IsPattern, patterns_from, patterns}
+use Rattle.ipa_ground.specs.Patterns.{opened, IsPatternFrom, IsPattern, patterns_from, patterns}
 
 -- a pattern from here on is listed
 pub Listed-patterns_from : (used : Universe) (sorts classes : List ℕ) → IsPatternFrom used sorts classes → IsListed (patterns_from used sorts) classes
@@ -38,22 +38,24 @@ pub Rises-patterns_from : (used : Universe) (sorts : List ℕ) → IsStrictlySor
 Rises-patterns_from used [] = Rises-one (slice_cmp nat_cmp) []
 Rises-patterns_from used (sort ∷ sorts) = Rises-branches (λ x. patterns_from (opened used sort x) sorts) (size_of used sort + 1) (λ x l. Rises-patterns_from (opened used sort x) sorts)
 
--- the same from the start
-pub Listed-patterns : (sorts classes : List ℕ) → IsPattern sorts classes → IsListed (patterns sorts) classes
-Listed-patterns sorts classes p = Listed-patterns_from unused sorts classes p
+-- the same of the patterns of variables
+pub Listed-patterns : (constants : Universe) (sorts classes : List ℕ) → IsPattern constants sorts classes →
+    IsListed (patterns constants sorts) classes
+Listed-patterns constants sorts classes p = Listed-patterns_from constants sorts classes p
 
-pub listed_pattern : (sorts classes : List ℕ) → IsListed (patterns sorts) classes → IsPattern sorts classes
-listed_pattern sorts classes h = listed_pattern_from unused sorts classes h
+pub listed_pattern : (constants : Universe) (sorts classes : List ℕ) → IsListed (patterns constants sorts) classes →
+    IsPattern constants sorts classes
+listed_pattern constants sorts classes h = listed_pattern_from constants sorts classes h
 
-pub Rises-patterns : (sorts : List ℕ) → IsStrictlySortedBy (slice_cmp nat_cmp) (patterns sorts)
-Rises-patterns sorts = Rises-patterns_from unused sorts
+pub Rises-patterns : (constants : Universe) (sorts : List ℕ) →
+    IsStrictlySortedBy (slice_cmp nat_cmp) (patterns constants sorts)
+Rises-patterns constants sorts = Rises-patterns_from constants sorts
 
 -- a pattern has a class for each variable
-pub length-pattern_from : (used : Universe) (sorts classes : List ℕ) → IsPatternFrom used sorts classes → length classes ≡ length sorts
+pub length-pattern_from : (used : Universe) (sorts classes : List ℕ) → IsPatternFrom used sorts classes →
+    length classes ≡ length sorts
 length-pattern_from used [] [] p = refl
 length-pattern_from used [] (class ∷ classes) p = absurd p
 length-pattern_from used (sort ∷ sorts) [] p = absurd p
-length-pattern_from used (sort ∷ sorts) (class ∷ classes) p = ap suc (length-pattern_from (opened used sort class) sorts classes p.1)
-
-pub length-pattern : (sorts classes : List ℕ) → IsPattern sorts classes → length classes ≡ length sorts
-length-pattern sorts classes p = length-pattern_from unused sorts classes p
+length-pattern_from used (sort ∷ sorts) (class ∷ classes) p =
+    ap suc (length-pattern_from (opened used sort class) sorts classes p.1)

@@ -1,19 +1,17 @@
 -- For all elements of the variables there is exactly one pattern with the same equalities.
 --
 --   class-within                a variable's class is in use after all
---   class-taken                 a class in use is that of some variable
+--   class-taken                 a class in use was so from the start, or is that of some variable
 --   pattern_for                 there is a pattern whose classes stand for the elements
 --   one-renamed                 there is only one
---   same-equalities             it has the same equalities
---   one-pattern                 and is the only one that has
+--   pattern-within, pattern-constants   a variable's class is in use, and so are those of the constants
 use Rattle.std.proofs.Common.{◌≡◌, ℕ, zero, suc, ◌+◌, ◌<◌, ◌≤◌, ◌≢◌, Bool, true, false, ◌==◌, cond, List, [], ◌∷◌, length, Some, refl, sym, ap, ◌∙◌, subst, arith, inl, inr, ◌⊎◌, slice_get}
 use Rattle.std.specs.List.{slice_index}
 use Rattle.std.proofs.lemmas.Bool.{cases_lt, cases_eq, eq-eqb, ne_eqb, cond-true, cond-false}
-use Rattle.std.proofs.lemmas.List.{get_or-replicate, get_or_past}
 use Rattle.std.proofs.lemmas.Option.{same_Some}
 use Rattle.ipa_logic.specs.Facts.{Universe, size_of}
 use Rattle.ipa_ground.specs.ClassLaws.{AreSortsOf, length-opened, opened-in_use, size-opened, size-other, size-grows, size-after}
-use Rattle.ipa_ground.specs.Patterns.{AreSorts, unused, opened, IsPatternFrom, IsPattern, used_after, pattern_universe, SameEqualities, Renames, IsTaken, PatternFor}
+use Rattle.ipa_ground.specs.Patterns.{AreConstants, AreSorts, opened, IsPatternFrom, IsPattern, used_after, pattern_universe, Renames, IsTaken, PatternFor}
 
 -- the classes in use stand for different elements
 abbrev pub AreApart : Universe → (ℕ → ℕ → ℕ) → Type 0
@@ -190,35 +188,36 @@ pattern_from used before (s ∷ sorts) element h apart =
     with_class used before s sorts element (h 0 s refl) first
     (pattern_from (opened used s first.class) first.next sorts (λ i. element (suc i)) (λ j q f. omega (arith, length-opened used s first.class, h (suc j) q f)) first.apart)
 
--- the start
-sorts-unused : (sorts : List ℕ) → AreSorts sorts → AreSortsOf unused sorts
-sorts-unused sorts h i sort e = h.below i sort e
+-- variables of the eight sorts are of the constants' sorts
+sorts-constants : (constants : Universe) (sorts : List ℕ) → AreConstants constants → AreSorts sorts →
+    AreSortsOf constants sorts
+sorts-constants constants sorts are h i sort e = omega (arith, are.width, h.below i sort e)
 
-none-unused : (sort class : ℕ) → class < size_of unused sort → ⊥
-none-unused sort class l = elim (cases_lt sort 8) [
-  | inl inside ↦ (let none : size_of unused sort ≡ 0 = get_or-replicate 8 sort 0 0 inside in omega arith)
-  | inr past ↦ (let none : size_of unused sort ≡ 0 = get_or_past unused sort 0 past in omega arith)
-]
-
--- a class of a pattern is that of some variable
-pub pattern-taken : (sorts classes : List ℕ) → AreSorts sorts → IsPattern sorts classes → (sort class : ℕ) → class < size_of (pattern_universe sorts classes) sort → IsTaken sorts classes sort class
-pattern-taken sorts classes h p sort class l = elim (class-taken unused sorts classes (sorts-unused sorts h) p sort class l) [
-  | inl before ↦ absurd (none-unused sort class before)
-  | inr taken ↦ taken
-]
+-- a class of a pattern that is no constant's is that of some variable
+pub pattern-taken : (constants : Universe) (sorts classes : List ℕ) → AreConstants constants → AreSorts sorts →
+    IsPattern constants sorts classes → (sort class : ℕ) → size_of constants sort ≤ class →
+    class < size_of (pattern_universe constants sorts classes) sort → IsTaken sorts classes sort class
+pattern-taken constants sorts classes are h p sort class past l =
+    elim (class-taken constants sorts classes (sorts-constants constants sorts are h) p sort class l) [
+      | inl before ↦ absurd (omega arith)
+      | inr taken ↦ taken
+    ]
 
 -- there is a pattern whose classes stand for the elements
-pub pattern_for : (sorts elements : List ℕ) → AreSorts sorts → PatternFor sorts elements
-pattern_for sorts elements h =
-    let from = pattern_from unused (λ _ _. 0) sorts (slice_index elements) (sorts-unused sorts h) (λ sort c d l m e. absurd (none-unused sort c l)) in
+pub pattern_for : (constants : Universe) (sorts elements : List ℕ) → AreConstants constants → AreSorts sorts →
+    PatternFor constants sorts elements
+pattern_for constants sorts elements are h =
+    let from = pattern_from constants (λ _ class. class) sorts (slice_index elements)
+    (sorts-constants constants sorts are h) (λ sort c d l m e. e) in
     record {
       classes = from.classes;
       is_pattern = from.is_pattern;
       renames = record {
         to = from.renames.to;
+        fixed = from.renames.extends;
         places = from.renames.places;
         apart = from.renames.apart;
-        taken = pattern-taken sorts from.classes h from.is_pattern;
+        taken = pattern-taken constants sorts from.classes are h from.is_pattern;
       };
     }
 
@@ -279,60 +278,30 @@ same_renamed used before (s ∷ sorts) (c ∷ p) (d ∷ q) element h is_p is_q r
     (record { to = r.to; extends = λ sort class l. refl; places = λ i sort e. r.places (suc i) sort e; apart = r.apart }) at_c in
     λ i. first i ∷ rest i
 
+-- a pattern's classes as those that go on from the constants'
+from-constants : (constants : Universe) (sorts classes elements : List ℕ) → Renames constants sorts classes elements →
+    RenamesFrom constants (λ _ class. class) sorts classes (slice_index elements)
+from-constants constants sorts classes elements r =
+    record { to = r.to; extends = r.fixed; places = r.places; apart = r.apart }
+
 -- two patterns whose classes stand for the same elements are one
-pub one-renamed : (sorts p q elements : List ℕ) → AreSorts sorts → IsPattern sorts p → IsPattern sorts q → Renames sorts p elements → Renames sorts q elements → p ≡ q
-one-renamed sorts p q elements h is_p is_q r t =
-    same_renamed unused (λ _ _. 0) sorts p q (slice_index elements) (sorts-unused sorts h) is_p is_q
-    (record { to = r.to; extends = λ sort class l. absurd (none-unused sort class l); places = r.places; apart = r.apart })
-    (record { to = t.to; extends = λ sort class l. absurd (none-unused sort class l); places = t.places; apart = t.apart })
+pub one-renamed : (constants : Universe) (sorts p q elements : List ℕ) → AreConstants constants → AreSorts sorts →
+    IsPattern constants sorts p → IsPattern constants sorts q → Renames constants sorts p elements →
+    Renames constants sorts q elements → p ≡ q
+one-renamed constants sorts p q elements are h is_p is_q r t =
+    same_renamed constants (λ _ class. class) sorts p q (slice_index elements) (sorts-constants constants sorts are h)
+    is_p is_q (from-constants constants sorts p elements r) (from-constants constants sorts q elements t)
 
 -- a variable's class is in use
-pub pattern-within : (sorts classes : List ℕ) → AreSorts sorts → IsPattern sorts classes → (i sort : ℕ) → slice_get sorts i ≡ Some sort → slice_index classes i < size_of (pattern_universe sorts classes) sort
-pattern-within sorts classes h p i sort e = class-within unused sorts classes (sorts-unused sorts h) p i sort e
+pub pattern-within : (constants : Universe) (sorts classes : List ℕ) → AreConstants constants → AreSorts sorts →
+    IsPattern constants sorts classes → (i sort : ℕ) → slice_get sorts i ≡ Some sort →
+    slice_index classes i < size_of (pattern_universe constants sorts classes) sort
+pattern-within constants sorts classes are h p i sort e =
+    class-within constants sorts classes (sorts-constants constants sorts are h) p i sort e
 
--- a pattern whose classes stand for elements has their equalities
-pub same-equalities : (sorts p elements : List ℕ) → AreSorts sorts → IsPattern sorts p → Renames sorts p elements → SameEqualities sorts p elements
-same-equalities sorts p elements h is_p r = record {
-  same = λ i j sort e f. (
-    (λ same. sym (r.places i sort e) ∙ (ap (r.to sort) same ∙ r.places j sort f)),
-    (λ same. r.apart sort (slice_index p i) (slice_index p j) (pattern-within sorts p h is_p i sort e) (pattern-within sorts p h is_p j sort f) (r.places i sort e ∙ (same ∙ sym (r.places j sort f)))),
-  );
-}
-
--- a number that a fact tells, where it holds
-chosen : {P Q : Type 0} → (P → ℕ) → P ⊎ Q → ℕ
-chosen of (inl p) = of p
-chosen of (inr q) = 0
-
-chosen-is : {P Q : Type 0} (of : P → ℕ) (w : P ⊎ Q) (x : ℕ) → ((p : P) → of p ≡ x) → (Q → ⊥) → chosen of w ≡ x
-unfolding chosen
-chosen-is of (inl p) x yes_is never = yes_is p
-chosen-is of (inr q) x yes_is never = absurd (never q)
-
--- and the classes of a pattern with their equalities stand for them
-pub renames-same : (sorts p elements : List ℕ) → AreSorts sorts → IsPattern sorts p → SameEqualities sorts p elements → Renames sorts p elements
-renames-same sorts p elements h is_p same = record {
-  to = to;
-  places = places;
-  apart = λ sort c d l m e.
-      let at_c = pattern-taken sorts p h is_p sort c l in
-      let at_d = pattern-taken sorts p h is_p sort d m in
-      sym at_c.is ∙ ((same.same at_c.place at_d.place sort at_c.of_sort at_d.of_sort).1 (sym (stands at_c.place sort c at_c.of_sort at_c.is) ∙ (e ∙ stands at_d.place sort d at_d.of_sort at_d.is)) ∙ at_d.is);
-  taken = pattern-taken sorts p h is_p;
-}
-  where
-    to : ℕ → ℕ → ℕ
-    to sort class = chosen (λ l. slice_index elements (pattern-taken sorts p h is_p sort class l).place) (cases_lt class (size_of (pattern_universe sorts p) sort))
-
-    stands : (i sort class : ℕ) → slice_get sorts i ≡ Some sort → slice_index p i ≡ class → to sort class ≡ slice_index elements i
-    stands i sort class e is = chosen-is _ (cases_lt class (size_of (pattern_universe sorts p) sort)) (slice_index elements i)
-        (λ l. let at = pattern-taken sorts p h is_p sort class l in (same.same at.place i sort at.of_sort e).0 (at.is ∙ sym is))
-        (λ past. let within = pattern-within sorts p h is_p i sort e in omega arith)
-
-    places : (i sort : ℕ) → slice_get sorts i ≡ Some sort → to sort (slice_index p i) ≡ slice_index elements i
-    places i sort e = stands i sort (slice_index p i) e refl
-
--- only one pattern has the equalities of the elements
-pub one_pattern : (sorts p q elements : List ℕ) → AreSorts sorts → IsPattern sorts p → IsPattern sorts q → SameEqualities sorts p elements → SameEqualities sorts q elements → p ≡ q
-one_pattern sorts p q elements h is_p is_q same_p same_q =
-    one-renamed sorts p q elements h is_p is_q (renames-same sorts p elements h is_p same_p) (renames-same sorts q elements h is_q same_q)
+-- no constant's class is given up
+pub pattern-constants : (constants : Universe) (sorts classes : List ℕ) → AreConstants constants → AreSorts sorts →
+    IsPattern constants sorts classes → (sort : ℕ) →
+    size_of constants sort ≤ size_of (pattern_universe constants sorts classes) sort
+pattern-constants constants sorts classes are h p sort =
+    size-after constants sorts classes sort (sorts-constants constants sorts are h) p

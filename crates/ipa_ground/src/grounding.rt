@@ -12,7 +12,7 @@ ghost use Rattle.ipa_ground.specs.Places.{AreSmall};
 ghost use Rattle.ipa_ground.specs.Grounding.{Grounds, Narrows, KeepsClauses};
 ghost use Rattle.ipa_ground.specs.GroundingSteps.{IsReady, IsLitOf, IsDecided, ComesTo, AreGround, IsAlwaysTrue, GroundsInstance, GroundsFrom};
 ghost use Rattle.ipa_ground.specs.Instances.{FillsOver, ClauseFits, FactFits};
-ghost use Rattle.ipa_logic.specs.Facts.{IsFact};
+ghost use Rattle.ipa_logic.specs.Facts.{IsUniverse, IsFact};
 
 use crate::disjunction::Disjunction;
 use crate::numbering::{fact_count, number_from, starts};
@@ -44,9 +44,10 @@ struct Grounder<'a> {
 }
 
 /// The clauses of the specification over the universe as a formula, whose variables stand for the
-/// facts over the universe, in their order. Each size is at most 12.
+/// facts over the universe, in their order. Each size is at most 16, and no less than the number of the sort's constants.
 pub fn ground_clauses(alloc: Global, spec: &Spec, universe: &Universe) -> Result<Cnf, AllocError>
-    requires { AreSmall universe.now.sizes }
+    requires universe { IsUniverse spec.now universe.now.sizes }
+    requires sizes { AreSmall universe.now.sizes }
     ensures vars { IfOk result (λ formula. formula.vars ≡ length (facts_over spec.now.predicates universe.now.sizes)) }
     ensures satisfied { IfOk result (λ formula. (a : List Bool) → Satisfies formula a ↔ ((length a ≡ length (facts_over spec.now.predicates universe.now.sizes)) × KeepsClauses spec.now universe.now.sizes 0 a)) }
 {
@@ -56,14 +57,16 @@ pub fn ground_clauses(alloc: Global, spec: &Spec, universe: &Universe) -> Result
 }
 
 /// Adds the clauses of the specification over the universe to a formula, in which the variables from
-/// `first` on stand for the facts over the universe, in their order. Each size is at most 12. Where
-/// memory is wanting, some of the clauses may be added.
+/// `first` on stand for the facts over the universe, in their order. Each size is at most 16, and no
+/// less than the number of the sort's constants. Where memory is wanting, some of the clauses may be
+/// added.
 pub fn ground_clauses_into(
     cnf: &mut Cnf,
     first: u32,
     spec: &Spec,
     universe: &Universe,
 ) -> Result<(), AllocError>
+    requires universe { IsUniverse spec.now universe.now.sizes }
     requires sizes { AreSmall universe.now.sizes }
     requires room { first + length (facts_over spec.now.predicates universe.now.sizes) ≤ cnf.old.vars }
     requires range { first + length (facts_over spec.now.predicates universe.now.sizes) ≤ u32.MAX }

@@ -65,7 +65,7 @@ fn count_of(universe: &Universe, predicate: &Predicate) -> u32
     requires sizes { AreSmall universe.now.sizes }
     requires short { predicate.now.arity ≤ 3 }
     ensures value { result ≡ tuple_count (place_sizes predicate.now universe.now.sizes) }
-    ensures bound { result ≤ 1728 }
+    ensures bound { result ≤ 4096 }
 {
     let mut count = 1;
     for place in 0..predicate.arity {
@@ -80,7 +80,7 @@ fn number_in(universe: &Universe, predicate: &Predicate, fact: &Fact) -> u32
     requires short { predicate.now.arity ≤ 3 }
     requires placed { ArePlaced predicate.now.arity (λ place. size_of universe.now.sizes (slice_index predicate.now.sorts place)) fact.now.args }
     ensures value { result ≡ tuple_place (place_sizes predicate.now universe.now.sizes) (take predicate.now.arity fact.now.args) }
-    ensures bound { result < 1728 }
+    ensures bound { result < 4096 }
 {
     let mut number = 0;
     for place in 0..predicate.arity {
@@ -95,7 +95,7 @@ fn size_at(universe: &Universe, predicate: &Predicate, place: u8) -> u32
     requires sizes { AreSmall universe.now.sizes }
     requires within { place < 3 }
     ensures value { result ≡ size_of universe.now.sizes (slice_index predicate.now.sorts place) }
-    ensures bound { result ≤ 12 }
+    ensures bound { result ≤ 16 }
 {
     u32::from(size_of(universe, predicate.sorts[place as usize]))
 }

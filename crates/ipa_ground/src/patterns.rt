@@ -1,24 +1,24 @@
-//! The ways of making variables of one sort equal, one after the other.
+//! The ways of making variables of one sort equal to each other and to constants, one after the other.
 //!
 //! The next pattern raises the last class that can be raised, and starts anew after it. How many
 //! classes were in use before each variable is kept beside the classes, so that the search for that
 //! place opens and closes one class at a step, and most steps are at the last variables.
-ghost use Rattle.std.specs.Prelude.{◌≡◌, ◌^◌, ◌≤◌, ◌==◌, [], ◌∷◌, count_by, length, map, MatchOption};
-ghost use Rattle.ipa_ground.specs.Patterns.{AreSorts, patterns};
-ghost use Rattle.ipa_ground.specs.PatternCounts.{ways};
+ghost use Rattle.std.specs.Prelude.{◌≡◌, ◌≤◌, [], ◌∷◌, length, map, MatchOption};
+ghost use Rattle.ipa_ground.specs.Patterns.{AreConstants, AreSorts, patterns};
 
-use crate::cursor::Cursor;
+use crate::counting::{variables_of, ways};
+use crate::cursor::{Cursor, sizes_of};
 use ipa_logic::Universe;
 use std::marker::Model;
 
-/// A way of making variables of one sort equal.
+/// A way of making variables of one sort equal to each other and to constants of the sort.
 #[derive(Clone, Copy)]
 pub struct Pattern {
-    /// The class of each variable among those of its sort, and 0 past the variables.
+    /// The class of each variable among those of its sort, of which the constants have the first; 0 past the variables.
     pub classes: [u8; 12],
     /// The number of variables.
     pub len: u8,
-    /// The number of classes of each sort: the universe that has just the classes as elements.
+    /// The number of classes of each sort: the universe that has just the constants and the other classes as elements.
     pub universe: Universe,
 }
 
@@ -44,14 +44,16 @@ impl Model for Patterns {
 impl Patterns {
     ghost use Rattle.ipa_ground.specs.PatternValues.{pattern_of};
 
-    /// All patterns of variables of these sorts, of which there are at most 12, each below 8.
-    pub fn new(sorts: &[u8]) -> Patterns
+    /// All patterns of variables of these sorts, of which there are at most 12, each below 8. Each sort has so many
+    /// constants, at most 4.
+    pub fn new(sorts: &[u8], constants: &[u8; 8]) -> Patterns
         requires few { length sorts.now ≤ 12 }
         requires sorts { AreSorts sorts.now }
-        ensures { result ≡ map (pattern_of sorts.now) (patterns sorts.now) }
+        requires constants { AreConstants constants.now }
+        ensures { result ≡ map (pattern_of constants.now sorts.now) (patterns constants.now sorts.now) }
     {
         Patterns {
-            cursor: Cursor::first(sorts),
+            cursor: Cursor::first(sorts, sizes_of(constants)),
             is_done: false,
         }
     }
@@ -73,37 +75,17 @@ impl Patterns {
     }
 
     /// The number of patterns of variables of these sorts, of which there are at most 12, each
-    /// below 8.
-    pub fn count(sorts: &[u8]) -> u64
+    /// below 8. Each sort has so many constants, at most 4.
+    pub fn count(sorts: &[u8], constants: &[u8; 8]) -> u64
         requires few { length sorts.now ≤ 12 }
         requires sorts { AreSorts sorts.now }
-        ensures { result ≡ length (patterns sorts.now) }
+        requires constants { AreConstants constants.now }
+        ensures { result ≡ length (patterns constants.now sorts.now) }
     {
         let mut count = 1;
         for sort in 0..8 {
-            count *= set_partitions(variables_of(sorts, sort));
+            count *= ways(variables_of(sorts, sort), constants[sort as usize]);
         }
         count
     }
-}
-
-// The numbers of set partitions of 0 to 12 things.
-const SET_PARTITIONS: [u64; 13] = [
-    1, 1, 2, 5, 15, 52, 203, 877, 4140, 21147, 115975, 678570, 4213597,
-];
-
-// The number of patterns of so many variables of one sort.
-fn set_partitions(variables: usize) -> u64
-    requires { variables ≤ 12 }
-    ensures value { result ≡ ways variables 0 }
-    ensures bound { result ≤ 12 ^ variables }
-{
-    SET_PARTITIONS[variables]
-}
-
-// The number of variables of a sort.
-fn variables_of(sorts: &[u8], sort: u8) -> usize
-    ensures { result ≡ count_by (λ other. other == sort) sorts.now }
-{
-    sorts.iter().filter(|other| **other == sort).count()
 }

@@ -9,7 +9,7 @@ use Rattle.std.proofs.lemmas.Simd.{map-map}
 use Rattle.ipa_spec.specs.declared.specification.Specification.{Specification}
 use Rattle.ipa_spec.specs.declared.predicates.Predicate.{Predicate}
 use Rattle.ipa_spec.specs.Fits.{IsFit}
-use Rattle.ipa_logic.specs.Facts.{Universe, size_of}
+use Rattle.ipa_logic.specs.Facts.{Universe, IsUniverse, size_of}
 use Rattle.ipa_logic.specs.declared.facts.Fact.{Fact}
 use Rattle.ipa_ground.specs.Enumeration.{numbers, branches, tuples, three, size_in, place_sizes, facts_of, facts_from, facts_over}
 use Rattle.ipa_ground.specs.EnumerationLaws.{length-numbers, length-place_sizes}
@@ -96,36 +96,38 @@ predicates-next ps universe n p now next l at h e =
     ∙ (facts_from-push 0 (take n ps) p universe
     ∙ ap (λ m. facts_over (take n ps) universe ++ facts_of m p universe) (omega (arith, length-take-le n ps))))))
 
--- at most three sizes of at most twelve
-tuples-few : (f : ℕ → ℕ) → ((k : ℕ) → f k ≤ 12) → (ns : List ℕ) → length (tuples (map f ns)) ≤ 12 ^ length ns
+-- at most three sizes of at most sixteen
+tuples-few : (f : ℕ → ℕ) → ((k : ℕ) → f k ≤ 16) → (ns : List ℕ) → length (tuples (map f ns)) ≤ 16 ^ length ns
 tuples-few f small [] = omega arith
 tuples-few f small (n ∷ ns) =
     let count : length (tuples (map f (n ∷ ns))) ≡ f n * length (tuples (map f ns)) = length-branches (λ _. tuples (map f ns)) (f n) (length (tuples (map f ns))) (λ x l. refl) in
-    let bound : f n * length (tuples (map f ns)) ≤ 12 * 12 ^ length ns = mul-le (f n) (length (tuples (map f ns))) 12 (12 ^ length ns) (small n) (tuples-few f small ns) in
+    let bound : f n * length (tuples (map f ns)) ≤ 16 * 16 ^ length ns = mul-le (f n) (length (tuples (map f ns))) 16 (16 ^ length ns) (small n) (tuples-few f small ns) in
     let same : length ns + 1 ≡ length (n ∷ ns) = omega arith in
-    subst (λ m. length (tuples (map f (n ∷ ns))) ≤ 12 ^ m) same (omega (arith, pow_more 12 (length ns)))
+    subst (λ m. length (tuples (map f (n ∷ ns))) ≤ 16 ^ m) same (omega (arith, pow_more 16 (length ns)))
 
-size-small : (universe : Universe) (sort : ℕ) → AreSmall universe → size_of universe sort ≤ 12
+size-small : (universe : Universe) (sort : ℕ) → AreSmall universe → size_of universe sort ≤ 16
 size-small universe sort small = elim (cases_lt sort (length universe)) [
   | inl inside ↦ small sort 0 inside
   | inr past ↦ omega (arith, get_or_past universe sort 0 past)
 ]
 
-facts-few : (universe : Universe) → AreSmall universe → (number : ℕ) (ps : List Predicate) → ((n : ℕ) (p : Predicate) → slice_get ps n ≡ Some p → p.arity ≤ 3) → length (facts_from number ps universe) ≤ length ps * 1728
+facts-few : (universe : Universe) → AreSmall universe → (number : ℕ) (ps : List Predicate) → ((n : ℕ) (p : Predicate) → slice_get ps n ≡ Some p → p.arity ≤ 3) → length (facts_from number ps universe) ≤ length ps * 4096
 facts-few universe small number [] h = omega arith
 facts-few universe small number (p ∷ ps) h =
-    let here : length (tuples (place_sizes p universe)) ≤ 12 ^ length (numbers p.arity) = tuples-few (size_in universe p) (λ k. size-small universe (slice_index p.sorts k) small) (numbers p.arity) in
+    let here : length (tuples (place_sizes p universe)) ≤ 16 ^ length (numbers p.arity) = tuples-few (size_in universe p) (λ k. size-small universe (slice_index p.sorts k) small) (numbers p.arity) in
     let same : length (facts_of number p universe) ≡ length (tuples (place_sizes p universe)) = length-map (tuples (place_sizes p universe)) (λ (elements : List ℕ). record { predicate = number; args = three elements }) in
-    let power : 12 ^ p.arity ≤ 1728 = power-below p.arity (h 0 p refl) in
-    let arity : 12 ^ length (numbers p.arity) ≡ 12 ^ p.arity = ap (λ m. 12 ^ m) (length-numbers p.arity) in
-    let rest : length (facts_from (number + 1) ps universe) ≤ length ps * 1728 = facts-few universe small (number + 1) ps (λ n q e. h (suc n) q e) in
+    let power : 16 ^ p.arity ≤ 4096 = power-below p.arity (h 0 p refl) in
+    let arity : 16 ^ length (numbers p.arity) ≡ 16 ^ p.arity = ap (λ m. 16 ^ m) (length-numbers p.arity) in
+    let rest : length (facts_from (number + 1) ps universe) ≤ length ps * 4096 = facts-few universe small (number + 1) ps (λ n q e. h (suc n) q e) in
     let both : length (facts_from number (p ∷ ps) universe) ≡ length (facts_of number p universe) + length (facts_from (number + 1) ps universe) = length-append (facts_of number p universe) (facts_from (number + 1) ps universe) in
     omega arith
 
 -- the variables of the facts have numbers
-pub numbered : (s : Specification) (universe : Universe) → IsFit s → AreSmall universe → IsNumbered s universe
-numbered s universe fit small = record {
+pub numbered : (s : Specification) (universe : Universe) → IsFit s → IsUniverse s universe → AreSmall universe →
+    IsNumbered s universe
+numbered s universe fit sizes small = record {
   fit = fit;
+  sizes = sizes;
   small = small;
   room = omega (arith, facts-few universe small 0 s.predicates fit.arities, fit.predicate_count);
 }

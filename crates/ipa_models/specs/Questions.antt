@@ -2,7 +2,7 @@
 -- in order, and the first six for the fact literals of an instance.
 --
 --   state_of s universe a          the facts that an assignment makes true
---   IsNumbered s universe          the universe is small, and the variables of the facts have numbers
+--   IsNumbered s universe          the universe is a small one of it, and the variables of the facts have numbers
 --   IsGrounded s universe facts f  the formula that asks for the clauses alone
 --   fact_truths s values ls t      the truth of the instance's fact literals, in clause order
 --   Adds P old new                 the new formula asks for what the old one does, and for P
@@ -17,7 +17,7 @@ use Rattle.ipa_spec.specs.declared.clauses.Literal.{Literal}
 use Rattle.ipa_spec.specs.Fits.{IsFit}
 use Rattle.ipa_sat.specs.Formula.{Formula, Satisfies, value, literal_true as lit_true}
 use Rattle.ipa_sat.specs.declared.cnf.Lit.{Lit}
-use Rattle.ipa_logic.specs.Facts.{Universe}
+use Rattle.ipa_logic.specs.Facts.{Universe, IsUniverse}
 use Rattle.ipa_logic.specs.Truth.{Keeps, literal_true}
 use Rattle.ipa_logic.specs.Touches.{is_of_fact}
 use Rattle.ipa_logic.specs.declared.facts.Fact.{Fact}
@@ -31,11 +31,12 @@ use Rattle.ipa_models.specs.Models.{AsDemanded}
 abbrev pub state_of : Specification → Universe → List Bool → Fact → Bool
 state_of s universe a = test_of 6 a (facts_over s.predicates universe)
 
--- the specification fits and the universe is small, so the facts' variables have numbers that fit
+-- the specification fits and the universe is a small one of it, so the facts' variables have numbers that fit
 pub record IsNumbered (s : Specification) (universe : Universe) : Type 0 where
   pub fit : IsFit s
+  pub sizes : IsUniverse s universe
   pub small : AreSmall universe
-  pub room : 6 + length (facts_over s.predicates universe) ≤ 65536
+  pub room : 6 + length (facts_over s.predicates universe) ≤ 262144
 
 -- the new formula has the old one's variables, and is satisfied exactly where the old one is and P holds
 pub record Adds (P : List Bool → Type 0) (old new : Formula) : Type 0 where

@@ -9,6 +9,7 @@ ghost use Rattle.std.specs.Prelude.{◌≡◌, IfOk, MatchOption};
 ghost use Rattle.ipa_spec.specs.Actions.{sorts_of_vars};
 ghost use Rattle.ipa_ground.specs.Enumeration.{IsListed, facts_over};
 ghost use Rattle.ipa_ground.specs.Places.{AreSmall};
+ghost use Rattle.ipa_logic.specs.Facts.{IsUniverse};
 ghost use Rattle.ipa_logic.specs.Truth.{IsOver};
 ghost use Rattle.ipa_models.specs.Models.{AreFacts, Meets, IsFirstMeeting};
 ghost use Rattle.ipa_models.specs.Questions.{IsQuestion};
@@ -46,9 +47,11 @@ impl<'a> Model for Models<'a> {
 }
 
 impl<'a> Models<'a> {
-    /// The states over the universe that keep all clauses of the specification. Each size is at most 12.
+    /// The states over the universe that keep all clauses of the specification. Each size is at most 16, and no less
+    /// than the number of the sort's constants.
     pub fn new(alloc: Global, spec: &'a Spec, universe: Universe) -> Result<Models<'a>, AllocError>
-        requires { AreSmall universe.sizes }
+        requires universe { IsUniverse spec.now universe.sizes }
+        requires small { AreSmall universe.sizes }
         ensures { IfOk result (λ models. models ≡ record { spec = spec.now; universe = universe.sizes }) }
     {
         spec_is_fit(spec);

@@ -22,7 +22,6 @@ use Rattle.ipa_logic.specs.declared.facts.Fact.{Fact}
 use Rattle.ipa_logic.specs.declared.facts.Touch.{Touch}
 use Rattle.ipa_logic.specs.declared.facts.Touch.TheVariants as touch
 use Rattle.ipa_ground.specs.Enumeration.{facts_over}
-use Rattle.ipa_ground.specs.InstanceLaws.{IsUniverse-any}
 use Rattle.ipa_ground.specs.FactsLaws.{facts_over-fact, fact-facts_over, AreShort-from_fit}
 use Rattle.ipa_models.specs.Models.{Meets, IsFirstMeeting}
 use Rattle.ipa_models.specs.declared.demands.Demand.{Demand}
@@ -83,8 +82,8 @@ module _ (s : Specification) (fit : IsFit s) (universe : Universe) (action : Act
     asks = asks_of_action s universe action args ++ asks_of_literal s values l wanted
 
     -- what is asked is of facts over the universe
-    pub of-facts : AreOfFacts s universe asks
-    of-facts = (each-append (IsOfFact s universe) (asks_of_action s universe action args) (asks_of_literal s values l wanted)).1 (
+    pub of-facts : IsUniverse s universe → AreOfFacts s universe asks
+    of-facts sizes = (each-append (IsOfFact s universe) (asks_of_action s universe action args) (asks_of_literal s values l wanted)).1 (
       (each-append (IsOfFact s universe) (map touched (facts_over s.predicates universe)) (map needed (needs_of s action))).1 (
         (each-map (IsOfFact s universe) touched (facts_over s.predicates universe)).1
             (λ k f e. of-touch f (touch_of s action args f) (facts_over-fact s universe f (AreShort-from_fit s fit) (record { place = k; there = e }))),
@@ -101,11 +100,11 @@ module _ (s : Specification) (fit : IsFit s) (universe : Universe) (action : Act
 
         of-need : (need : Literal) (b : Bool) → LiteralFits s (sorts_of s action) need → IsOfFact s universe (cond b asked.Nothing (asked_for s args need true))
         of-need need true h = tt
-        of-need need false h = of-literal s universe (sorts_of s action) args need true (IsUniverse-any s universe fit) h over_args
+        of-need need false h = of-literal s universe (sorts_of s action) args need true sizes h over_args
 
         of-wanted : (w : Option Bool) → AreOfFacts s universe (asks_of_literal s values l w)
         of-wanted None = tt
-        of-wanted (Some holds) = (of-literal s universe sorts values l holds (IsUniverse-any s universe fit) fits over, tt)
+        of-wanted (Some holds) = (of-literal s universe sorts values l holds sizes fits over, tt)
 
     -- the literal is as wanted where what is asked of it is answered
     wanted-asked : (t : Fact → Bool) (w : Option Bool) → AnswersEach t (asks_of_literal s values l w) ↔ IsAsWanted s values l w t

@@ -18,3 +18,4 @@ mod EarlierLemmas
 mod OneExampleLemmas
 mod OneDropLemmas
 mod OneAnalysisLemmas
+mod PartsLemmas

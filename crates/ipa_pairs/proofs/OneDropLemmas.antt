@@ -11,9 +11,8 @@ use Rattle.ipa_spec.specs.declared.bounds.Bound.{Bound}
 use Rattle.ipa_spec.specs.declared.clauses.Clause.{Clause}
 use Rattle.ipa_logic.specs.declared.facts.Fact.{Fact}
 use Rattle.ipa_ground.specs.Enumeration.{AreShort}
-use Rattle.ipa_ground.specs.Patterns.{IsPattern}
 use Rattle.ipa_ground.specs.PatternValues.{is_before}
-use Rattle.ipa_reduction.specs.Cases.{drop_sorts, drop_universe, drop_args, drop_values, DropBreaksOn, IsDropBreakOn}
+use Rattle.ipa_reduction.specs.Cases.{IsDropPattern, drop_universe, drop_args, drop_values, DropBreaksOn, IsDropBreakOn}
 use Rattle.ipa_pairs.specs.Examples.{IsDropExampleOn, IsEarlierBefore, IsReportedDrop}
 use Rattle.ipa_pairs.specs.Collecting.{BoundClause, bound_clause_of}
 use Rattle.ipa_pairs.specs.declared.analysis.UnsafeDrop.{UnsafeDrop}
@@ -39,8 +38,8 @@ pub record IsFirstDropOn (s : Specification) (n : ℕ) (b : Bound) (c : Clause) 
 -- the example is the first one of this bound and clause
 pub record IsDropReportedAs (s : Specification) (t : BoundClause) (b : Bound) (c : Clause) (e : UnsafeDrop) : Type 0 where
   pub classes : List ℕ
-  pub is_pattern : IsPattern (drop_sorts s t.bound c) classes
-  pub first_pattern : (earlier : List ℕ) → IsPattern (drop_sorts s t.bound c) earlier → is_before earlier classes ≡ true → DropBreaksOn s t.bound b c earlier → ⊥
+  pub is_pattern : IsDropPattern s t.bound c classes
+  pub first_pattern : (earlier : List ℕ) → IsDropPattern s t.bound c earlier → is_before earlier classes ≡ true → DropBreaksOn s t.bound b c earlier → ⊥
   pub before : List Fact
   pub first : IsFirstDropOn s t.bound b c classes before
   pub is : e ≡ drop_at s t c classes before

@@ -20,9 +20,8 @@ use Rattle.ipa_spec.specs.declared.clauses.Clause.{Clause}
 use Rattle.ipa_spec.specs.declared.operations.Action.{Action}
 use Rattle.ipa_logic.specs.declared.facts.Fact.{Fact}
 use Rattle.ipa_ground.specs.Enumeration.{AreShort}
-use Rattle.ipa_ground.specs.Patterns.{IsPattern}
 use Rattle.ipa_ground.specs.PatternValues.{is_before}
-use Rattle.ipa_reduction.specs.Cases.{triple_sorts, triple_values, left_args, right_args, ConflictOn, IsConflictOn}
+use Rattle.ipa_reduction.specs.Cases.{IsTriplePattern, triple_values, left_args, right_args, ConflictOn, IsConflictOn}
 use Rattle.ipa_pairs.specs.Width.{Triple}
 use Rattle.ipa_pairs.specs.Examples.{IsEarlierState, IsExampleOn, IsReportedExample, hidden_facts}
 use Rattle.ipa_pairs.specs.Analyses.{triple_of}
@@ -91,8 +90,8 @@ example_at s t c classes place l r = example_of t.left t.right t.clause (case_of
 -- the example is the first one of this triple, with this clause
 pub record IsReportedAs (s : Specification) (t : Triple) (c : Clause) (e : Example) : Type 0 where
   pub classes : List ℕ
-  pub is_pattern : IsPattern (triple_sorts s t.left t.right c) classes
-  pub first_pattern : (earlier : List ℕ) → IsPattern (triple_sorts s t.left t.right c) earlier → is_before earlier classes ≡ true → ConflictOn s t.left t.right c earlier → ⊥
+  pub is_pattern : IsTriplePattern s t.left t.right c classes
+  pub first_pattern : (earlier : List ℕ) → IsTriplePattern s t.left t.right c earlier → is_before earlier classes ≡ true → ConflictOn s t.left t.right c earlier → ⊥
   pub place : ℕ
   pub after_left : List Fact
   pub after_right : List Fact

@@ -2,13 +2,15 @@
 --
 --   Extends .. InQuestion old new  the list has grown by such examples
 --   ExtendsConflicts               the same of triples in conflict
+--   IsOfPlace s place t            the triple's left action has this place among all
+--   IsPart s place found           the examples of those triples
 --   BoundClause                    a bound and the number of a clause
 --   IsDeclaredDrop, IsOfBound      the specification declares both; the bound is this one
 --   IsUnsafe, ExtendsDrops         the same of drops that can break a clause
 use Rattle.std.specs.Prelude.{◌≡◌, ℕ, ◌<◌, List, [], ◌∷◌, ◌++◌, length}
 use Rattle.ipa_spec.specs.declared.specification.Specification.{Specification}
 use Rattle.ipa_logic.specs.Acceptance.{DropBreaks}
-use Rattle.ipa_pairs.specs.Width.{Triple, triple_key}
+use Rattle.ipa_pairs.specs.Width.{Triple, IsDeclared, action_place, triple_key}
 use Rattle.ipa_pairs.specs.Examples.{IsReportedExample, IsReportedDrop}
 use Rattle.ipa_pairs.specs.Analyses.{triple_of, IsInConflict, Collects}
 use Rattle.ipa_pairs.specs.declared.analysis.Conflict.{Conflict as Example}
@@ -25,6 +27,15 @@ pub record Extends {X T : Type 0} (of : X → T) (key : T → List ℕ) (IsExamp
 abbrev pub ExtendsConflicts : Specification → (Triple → Type 0) → List Example → List Example → Type 0
 ExtendsConflicts s InQuestion old new =
     Extends triple_of (triple_key s) (IsReportedExample s) (IsInConflict s) InQuestion old new
+
+-- the triple's left action has this place among all
+pub record IsOfPlace (s : Specification) (place : ℕ) (t : Triple) : Type 0 where
+  pub declared : IsDeclared s t
+  pub place_is : action_place s t.left ≡ place
+
+-- the examples of the triples whose left action has this place
+pub record IsPart (s : Specification) (place : ℕ) (found : List Example) : Type 0 where
+  pub collects : Collects triple_of (triple_key s) (IsReportedExample s) (IsInConflict s) (IsOfPlace s place) found
 
 -- a bound and the number of a clause
 pub record BoundClause : Type 0 where

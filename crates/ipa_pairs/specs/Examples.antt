@@ -21,10 +21,9 @@ use Rattle.ipa_logic.specs.Truth.{fact_of}
 use Rattle.ipa_logic.specs.Touches.{makes_true}
 use Rattle.ipa_logic.specs.declared.facts.Fact.{Fact}
 use Rattle.ipa_sat.specs.Formula.{IsBefore}
-use Rattle.ipa_ground.specs.Patterns.{IsPattern}
 use Rattle.ipa_ground.specs.PatternValues.{is_before}
 use Rattle.ipa_models.specs.Models.{truths}
-use Rattle.ipa_reduction.specs.Cases.{triple_sorts, triple_universe, left_args, right_args, triple_values, IsConflictOn, ConflictOn, drop_sorts, drop_universe, drop_args, drop_values, IsDropBreakOn, DropBreaksOn}
+use Rattle.ipa_reduction.specs.Cases.{IsTriplePattern, triple_universe, left_args, right_args, triple_values, IsConflictOn, ConflictOn, IsDropPattern, drop_universe, drop_args, drop_values, IsDropBreakOn, DropBreaksOn}
 use Rattle.ipa_pairs.specs.declared.analysis.Conflict.{Conflict as Example}
 use Rattle.ipa_pairs.specs.declared.analysis.UnsafeDrop.{UnsafeDrop}
 
@@ -93,8 +92,8 @@ pub record IsReportedExample (s : Specification) (e : Example) : Type 0 where
   pub clause : Clause
   pub declared : slice_get s.clauses e.clause ≡ Some clause
   pub classes : List ℕ
-  pub is_pattern : IsPattern (triple_sorts s e.left e.right clause) classes
-  pub first_pattern : (earlier : List ℕ) → IsPattern (triple_sorts s e.left e.right clause) earlier →
+  pub is_pattern : IsTriplePattern s e.left e.right clause classes
+  pub first_pattern : (earlier : List ℕ) → IsTriplePattern s e.left e.right clause earlier →
       is_before earlier classes ≡ true → ConflictOn s e.left e.right clause earlier → ⊥
   pub first_on : IsFirstExampleOn s clause classes e
 
@@ -127,7 +126,7 @@ pub record IsReportedDrop (s : Specification) (e : UnsafeDrop) : Type 0 where
   pub clause : Clause
   pub clause_declared : slice_get s.clauses e.clause ≡ Some clause
   pub classes : List ℕ
-  pub is_pattern : IsPattern (drop_sorts s e.bound clause) classes
-  pub first_pattern : (earlier : List ℕ) → IsPattern (drop_sorts s e.bound clause) earlier →
+  pub is_pattern : IsDropPattern s e.bound clause classes
+  pub first_pattern : (earlier : List ℕ) → IsDropPattern s e.bound clause earlier →
       is_before earlier classes ≡ true → DropBreaksOn s e.bound bound clause earlier → ⊥
   pub first_on : IsFirstDropExampleOn s bound clause classes e

@@ -20,11 +20,11 @@ use Rattle.ipa_spec.specs.declared.operations.Action.{Action}
 use Rattle.ipa_spec.specs.declared.operations.Action.TheVariants.{Op, Drop}
 use Rattle.ipa_logic.specs.Conflicts.{is_live}
 use Rattle.ipa_ground.specs.Patterns.{patterns}
-use Rattle.ipa_reduction.specs.Cases.{triple_sorts}
+use Rattle.ipa_reduction.specs.Cases.{constant_counts, triple_sorts}
 
--- the number of the patterns of the triple's variables
+-- the number of the patterns of the triple's variables, with the constants
 abbrev pub pattern_count : Specification → Action → Action → Clause → ℕ
-pattern_count s left right c = length (patterns (triple_sorts s left right c))
+pattern_count s left right c = length (patterns (constant_counts s) (triple_sorts s left right c))
 
 -- the triple is live and has more patterns than are gone through
 pub record IsTooWide (s : Specification) (left right : Action) (k : ℕ) : Type 0 where

@@ -12,6 +12,7 @@ use ipa_reduction::laws::{conflicts_are_on_patterns, unsafe_drops_are_on_pattern
 use ipa_spec::Spec;
 use std::alloc::{AllocError, Global};
 use std::marker::Model;
+use std::thread::Threads;
 
 /// An accepted specification: no two actions of it conflict on a clause, and every drop is safe.
 #[derive(Drop)]
@@ -52,15 +53,19 @@ impl Accepted {
 }
 
 /// The specification as an accepted one, exactly where no two of its actions conflict on a clause
-/// and every drop is safe; else it is given up, and the analysis is answered. Refused too, before
-/// that, exactly where a live triple has more than 30000 patterns, with the first such triple; or
-/// for want of memory.
-pub fn accept(alloc: Global, spec: Spec) -> Result<Accepted, AcceptFault>
+/// and every drop is safe, which is sought on all processors; else it is given up, and the analysis
+/// is answered. Refused too, before that, exactly where a live triple has more than 30000 patterns,
+/// with the first such triple; or for want of memory.
+pub fn accept(
+    rt: &(impl Threads + Sync),
+    alloc: Global,
+    spec: Spec,
+) -> Result<Accepted, AcceptFault>
     ensures accepted { IfOk result (λ accepted. accepted ≡ spec) }
     ensures narrow { IfOk result (λ accepted. IsNarrow spec (IsDeclared spec)) }
     ensures fault { IfErr result (IsAcceptFault spec) }
 {
-    let analysis = analysed(alloc, &spec)?;
+    let analysis = analysed(rt, alloc, &spec)?;
     if is_clean(&analysis) {
         return Ok(Accepted { spec });
     }
@@ -70,11 +75,11 @@ pub fn accept(alloc: Global, spec: Spec) -> Result<Accepted, AcceptFault>
 }
 
 // The analysis, or why there is none.
-fn analysed(alloc: Global, spec: &Spec) -> Result<Analysis, AcceptFault>
+fn analysed(rt: &(impl Threads + Sync), alloc: Global, spec: &Spec) -> Result<Analysis, AcceptFault>
     ensures analysis { IfOk result (IsAnalysis spec.now) }
     ensures fault { IfErr result (IsAcceptFault spec.now) }
 {
-    match analyse(alloc, spec) {
+    match analyse(rt, alloc, spec) {
         Ok(analysis) => Ok(analysis),
         Err(
             PairFault::TooWide {

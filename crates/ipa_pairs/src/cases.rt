@@ -5,7 +5,7 @@ ghost use Rattle.ipa_logic.specs.Touches.{makes_true};
 ghost use Rattle.ipa_logic.specs.Conflicts.{can_be_falsified};
 ghost use Rattle.ipa_ground.specs.Enumeration.{IsListed};
 ghost use Rattle.ipa_ground.specs.Places.{AreSmall};
-ghost use Rattle.ipa_reduction.specs.Cases.{triple_sorts, ConflictOn};
+ghost use Rattle.ipa_reduction.specs.Cases.{constant_counts, triple_sorts, ConflictOn};
 ghost use Rattle.ipa_pairs.specs.Analyses.{triple_of};
 ghost use Rattle.ipa_pairs.specs.Examples.{IsFirstExampleOn};
 ghost use Rattle.ipa_pairs.specs.Openness.{IsOpen, case_of, IsOverCase, can_be_lost, wanted_of, HasNoStates, AreFirstStates};
@@ -58,7 +58,7 @@ pub(crate) fn conflict_on<'a>(
     pattern: &Pattern,
 ) -> Result<Option<Conflict>, AllocError>
     requires declared { slice_get spec.now.clauses number ≡ Some clause.now }
-    requires pattern { IsPatternOf (triple_sorts spec.now left right clause.now) pattern.now }
+    requires pattern { IsPatternOf (constant_counts spec.now) (triple_sorts spec.now left right clause.now) pattern.now }
     requires of { AreOf spec.now grounded.old }
     ensures of { AreOf spec.now grounded.new }
     ensures found { IfOk result (λ found. MatchOption found
@@ -106,7 +106,7 @@ fn case_of(
     pattern: &Pattern,
 ) -> Case
     requires declared { slice_get spec.now.clauses number ≡ Some clause.now }
-    requires pattern { IsPatternOf (triple_sorts spec.now left right clause.now) pattern.now }
+    requires pattern { IsPatternOf (constant_counts spec.now) (triple_sorts spec.now left right clause.now) pattern.now }
     ensures value { result ≡ case_of spec.now left right clause.now (classes_of pattern.now) }
     ensures over { IsOverCase spec.now clause.now result }
     ensures small { AreSmall result.universe.sizes }

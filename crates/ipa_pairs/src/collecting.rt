@@ -1,9 +1,10 @@
 //! The examples of all triples and of all drops, collected in order.
 //!
 //! Each function appends the examples of its cases to a list that it is lent.
-ghost use Rattle.std.specs.Prelude.{◌≡◌, ◌<◌, length, OnOk};
+ghost use Rattle.std.specs.Prelude.{◌≡◌, ◌<◌, length, IfOk, OnOk};
 ghost use Rattle.ipa_spec.specs.Actions.{IsAction};
 ghost use Rattle.ipa_pairs.specs.Width.{IsDeclared, IsOfPair};
+ghost use Rattle.ipa_pairs.specs.Analyses.{AreReported, AreReportedDrops};
 ghost use Rattle.ipa_pairs.specs.Grounded.{AreOf};
 ghost use Rattle.ipa_pairs.specs.Triples.{triple, IsOfLeft};
 ghost use Rattle.ipa_pairs.specs.Collecting.{ExtendsConflicts, ExtendsDrops, IsDeclaredDrop, IsOfBound, bound_clause};
@@ -16,8 +17,28 @@ use crate::triples::find_conflict;
 use ipa_spec::{Action, List, Spec};
 use std::alloc::{AllocError, Global};
 
-/// Appends the examples of all triples.
-pub(crate) fn push_conflicts<'a>(
+/// The examples of all triples, one after the other.
+pub(crate) fn conflicts_in_turn(alloc: Global, spec: &Spec) -> Result<List<Conflict>, AllocError>
+    ensures { IfOk result (AreReported spec.now (IsDeclared spec.now)) }
+{
+    let mut grounded = List::new(alloc);
+    let mut conflicts = List::new(alloc);
+    push_conflicts(alloc, spec, &mut grounded, &mut conflicts)?;
+    Ok(conflicts)
+}
+
+/// The examples of all drops that can break a clause.
+pub(crate) fn all_unsafe_drops(alloc: Global, spec: &Spec) -> Result<List<UnsafeDrop>, AllocError>
+    ensures { IfOk result (AreReportedDrops spec.now) }
+{
+    let mut grounded = List::new(alloc);
+    let mut unsafe_drops = List::new(alloc);
+    push_unsafe_drops(alloc, spec, &mut grounded, &mut unsafe_drops)?;
+    Ok(unsafe_drops)
+}
+
+// Appends the examples of all triples.
+fn push_conflicts<'a>(
     alloc: Global,
     spec: &'a Spec,
     grounded: &mut List<Grounding<'a>>,
@@ -33,8 +54,8 @@ pub(crate) fn push_conflicts<'a>(
     Ok(())
 }
 
-// Appends the examples of the triples with this action on the left.
-fn push_conflicts_of_left<'a>(
+/// Appends the examples of the triples with this action on the left.
+pub(crate) fn push_conflicts_of_left<'a>(
     alloc: Global,
     spec: &'a Spec,
     grounded: &mut List<Grounding<'a>>,
@@ -103,8 +124,8 @@ fn push_conflict<'a>(
     }
 }
 
-/// Appends the examples of all drops that can break a clause.
-pub(crate) fn push_unsafe_drops<'a>(
+// Appends the examples of all drops that can break a clause.
+fn push_unsafe_drops<'a>(
     alloc: Global,
     spec: &'a Spec,
     grounded: &mut List<Grounding<'a>>,

@@ -2,12 +2,12 @@
 //!
 //! A drop none of whose effects can make a literal of the clause false breaks none. Of another, the
 //! patterns of the dropped fact's places and the clause's variables are gone through in order. Where
-//! the drop makes a literal of the instance false on a pattern, what the drop asks of a state is that it holds the fact, and that each literal of
-//! the instance is false after the drop.
+//! the drop makes a literal of the instance false on a pattern, what the drop asks of a state is that
+//! it holds the fact, and that each literal of the instance is false after the drop.
 ghost use Rattle.std.specs.Prelude.{◌≡◌, ◌<◌, length, slice_get, Some, IfOk, MatchOption};
 ghost use Rattle.ipa_logic.specs.Acceptance.{DropBreaks};
 ghost use Rattle.ipa_ground.specs.Places.{AreSmall};
-ghost use Rattle.ipa_reduction.specs.Cases.{drop_sorts, DropBreaksOn};
+ghost use Rattle.ipa_reduction.specs.Cases.{constant_counts, drop_sorts, DropBreaksOn};
 ghost use Rattle.ipa_pairs.specs.Examples.{IsReportedDrop, IsFirstDropExampleOn};
 ghost use Rattle.ipa_pairs.specs.Grounded.{AreOf};
 ghost use Rattle.ipa_pairs.specs.Openness.{drop_case_of, IsOverDropCase};
@@ -15,6 +15,7 @@ ghost use Rattle.ipa_pairs.specs.Patterned.{IsPatternOf, classes_of};
 
 use crate::analysis::UnsafeDrop;
 use crate::arguments::{args_from, sort_count};
+use crate::constants::constant_counts;
 use crate::gathering::{asks_of_drop, demands_of};
 use crate::groundings::{Grounding, place_of};
 use crate::sorts::drop_sorts;
@@ -65,7 +66,8 @@ pub(crate) fn find_unsafe_drop<'a>(
     patterns_of_drops_fit();
     unsafe_drops_are_on_patterns();
     let sorts = drop_sorts(spec, bound, clause);
-    let mut patterns = Patterns::new(sorts.as_slice());
+    let constants = constant_counts(spec);
+    let mut patterns = Patterns::new(sorts.as_slice(), &constants);
     while let Some(pattern) = patterns.next() {
         match drop_break_on(
             alloc, spec, grounded, bound, declared, number, clause, &pattern,
@@ -91,7 +93,7 @@ fn drop_break_on<'a>(
 ) -> Result<Option<UnsafeDrop>, AllocError>
     requires bound { slice_get spec.now.bounds bound ≡ Some declared.now }
     requires clause { slice_get spec.now.clauses number ≡ Some clause.now }
-    requires pattern { IsPatternOf (drop_sorts spec.now bound clause.now) pattern.now }
+    requires pattern { IsPatternOf (constant_counts spec.now) (drop_sorts spec.now bound clause.now) pattern.now }
     requires of { AreOf spec.now grounded.old }
     ensures of { AreOf spec.now grounded.new }
     ensures found { IfOk result (λ found. MatchOption found
@@ -147,7 +149,7 @@ fn drop_break_on<'a>(
 // The arguments and values that the classes of the pattern are.
 fn drop_case_of(spec: &Spec, bound: u8, number: u8, clause: &Clause, pattern: &Pattern) -> DropCase
     requires declared { slice_get spec.now.clauses number ≡ Some clause.now }
-    requires pattern { IsPatternOf (drop_sorts spec.now bound clause.now) pattern.now }
+    requires pattern { IsPatternOf (constant_counts spec.now) (drop_sorts spec.now bound clause.now) pattern.now }
     ensures value { result ≡ drop_case_of spec.now bound clause.now (classes_of pattern.now) }
     ensures over { IsOverDropCase spec.now bound clause.now result }
     ensures small { AreSmall result.universe.sizes }

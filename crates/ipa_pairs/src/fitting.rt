@@ -2,6 +2,7 @@
 ghost use Rattle.std.specs.Prelude.{◌≡◌, ◌↔◌, Bool, List as Items, IfOk, MatchOption};
 ghost use Rattle.ipa_spec.specs.Actions.{sorts_of, sorts_of_vars};
 ghost use Rattle.ipa_spec.specs.Fits.{IsFit};
+ghost use Rattle.ipa_logic.specs.Facts.{IsUniverse};
 ghost use Rattle.ipa_logic.specs.Truth.{IsOver};
 ghost use Rattle.ipa_logic.specs.declared.facts.Fact.{Fact as TheFact};
 ghost use Rattle.ipa_ground.specs.Enumeration.{IsListed};
@@ -29,6 +30,7 @@ pub(crate) fn first_fitting(
     wanted: Option<bool>,
 ) -> Result<Option<State>, AllocError>
     requires spec { models.now.spec ≡ spec.now }
+    requires universe { IsUniverse spec.now models.now.universe }
     requires args { IsOver models.now.universe (sorts_of spec.now action) args.now }
     requires declared { IsListed spec.now.clauses clause.now }
     requires values { IsOver models.now.universe (sorts_of_vars clause.now.vars) values.now }

@@ -1,6 +1,7 @@
 //! The states over each universe that has occurred. The clauses are grounded once for a universe,
 //! and not once for each pattern over it.
 ghost use Rattle.std.specs.Prelude.{◌≡◌, Some, slice_get, IfOk, IfSome};
+ghost use Rattle.ipa_logic.specs.Facts.{IsUniverse};
 ghost use Rattle.ipa_ground.specs.Places.{AreSmall};
 ghost use Rattle.ipa_pairs.specs.Grounded.{AreOf, IsAt, grounding};
 
@@ -23,6 +24,7 @@ pub(crate) fn place_of<'a>(
     grounded: &mut List<Grounding<'a>>,
     universe: Universe,
 ) -> Result<usize, AllocError>
+    requires universe { IsUniverse spec.now universe.sizes }
     requires small { AreSmall universe.sizes }
     requires of { AreOf spec.now grounded.old }
     ensures place { IfOk result (λ place. slice_get grounded.new place ≡ Some (grounding spec.now universe)) }

@@ -13,6 +13,7 @@ ghost use Rattle.ipa_pairs.specs.Grounded.{AreOf};
 
 use crate::analysis::Conflict;
 use crate::cases::conflict_on;
+use crate::constants::constant_counts;
 use crate::groundings::Grounding;
 use crate::sorts::triple_sorts;
 use ipa_ground::Patterns;
@@ -51,7 +52,8 @@ pub(crate) fn find_conflict<'a>(
     patterns_of_triples_fit();
     conflicts_are_on_patterns();
     let sorts = triple_sorts(spec, left, right, clause);
-    let mut patterns = Patterns::new(sorts.as_slice());
+    let constants = constant_counts(spec);
+    let mut patterns = Patterns::new(sorts.as_slice(), &constants);
     while let Some(pattern) = patterns.next() {
         match conflict_on(alloc, spec, grounded, left, right, number, clause, &pattern)? {
             None => {}

@@ -7,6 +7,7 @@ ghost use Rattle.ipa_pairs.specs.declared.analysis.PairFault.TheVariants.{TooWid
 
 use crate::actions::{action_at, action_count, clause_count};
 use crate::analysis::PairFault;
+use crate::constants::constant_counts;
 use crate::sorts::triple_sorts;
 use ipa_ground::Patterns;
 use ipa_logic::is_live;
@@ -39,12 +40,13 @@ impl Wide {
 
 const MOST_PATTERNS: u64 = 30000;
 
-/// The first of all triples that is too wide.
-pub(crate) fn first_wide(spec: &Spec) -> Option<Wide>
+/// The first of all triples that is too wide. The number of patterns of the live triples that are looked at is added to
+/// `patterns`.
+pub(crate) fn first_wide(spec: &Spec, patterns: &mut u64) -> Option<Wide>
     ensures { MatchOption result (IsNarrow spec.now (IsDeclared spec.now)) (IsFirstWide spec.now (IsDeclared spec.now)) }
 {
     for place in 0..action_count(spec) {
-        if let Some(wide) = first_wide_of_left(spec, action_at(spec, place)) {
+        if let Some(wide) = first_wide_of_left(spec, action_at(spec, place), patterns) {
             return Some(wide);
         }
     }
@@ -52,12 +54,12 @@ pub(crate) fn first_wide(spec: &Spec) -> Option<Wide>
 }
 
 // The first of the triples with this action on the left that is too wide.
-fn first_wide_of_left(spec: &Spec, left: Action) -> Option<Wide>
+fn first_wide_of_left(spec: &Spec, left: Action, patterns: &mut u64) -> Option<Wide>
     requires { IsAction spec.now left }
     ensures { MatchOption result (IsNarrow spec.now (IsOfLeft spec.now left)) (IsFirstWide spec.now (IsOfLeft spec.now left)) }
 {
     for place in 0..action_count(spec) {
-        if let Some(wide) = first_wide_of_pair(spec, left, action_at(spec, place)) {
+        if let Some(wide) = first_wide_of_pair(spec, left, action_at(spec, place), patterns) {
             return Some(wide);
         }
     }
@@ -65,11 +67,16 @@ fn first_wide_of_left(spec: &Spec, left: Action) -> Option<Wide>
 }
 
 /// The first of an ordered pair's triples that is too wide.
-pub(crate) fn first_wide_of_pair(spec: &Spec, left: Action, right: Action) -> Option<Wide>
+pub(crate) fn first_wide_of_pair(
+    spec: &Spec,
+    left: Action,
+    right: Action,
+    patterns: &mut u64,
+) -> Option<Wide>
     ensures { MatchOption result (IsNarrow spec.now (IsOfPair spec.now left right)) (IsFirstWide spec.now (IsOfPair spec.now left right)) }
 {
     for number in 0..clause_count(spec) {
-        if let Some(count) = wide_count(spec, left, right, number) {
+        if let Some(count) = wide_count(spec, left, right, number, patterns) {
             return Some(Wide {
                 left,
                 right,
@@ -82,11 +89,17 @@ pub(crate) fn first_wide_of_pair(spec: &Spec, left: Action, right: Action) -> Op
 }
 
 // The number of patterns of a triple, where it is too wide.
-fn wide_count(spec: &Spec, left: Action, right: Action, number: u8) -> Option<u64>
+fn wide_count(
+    spec: &Spec,
+    left: Action,
+    right: Action,
+    number: u8,
+    patterns: &mut u64,
+) -> Option<u64>
     ensures { MatchOption result (IsTooWide spec.now left right number → ⊥) (IsWideAt spec.now left right number) }
 {
     match spec.clauses().get(number as usize) {
-        Some(clause) => wide_count_on(spec, left, right, number, clause),
+        Some(clause) => wide_count_on(spec, left, right, number, clause, patterns),
         None => None,
     }
 }
@@ -98,6 +111,7 @@ fn wide_count_on(
     right: Action,
     number: u8,
     clause: &Clause,
+    patterns: &mut u64,
 ) -> Option<u64>
     requires { slice_get spec.now.clauses number ≡ Some clause.now }
     ensures { MatchOption result (IsTooWide spec.now left right number → ⊥) (IsWideAt spec.now left right number) }
@@ -108,7 +122,9 @@ fn wide_count_on(
     spec_is_fit(spec);
     patterns_of_triples_fit();
     let sorts = triple_sorts(spec, left, right, clause);
-    let count = Patterns::count(sorts.as_slice());
+    let constants = constant_counts(spec);
+    let count = Patterns::count(sorts.as_slice(), &constants);
+    *patterns = patterns.saturating_add(count);
     if count > MOST_PATTERNS {
         Some(count)
     } else {

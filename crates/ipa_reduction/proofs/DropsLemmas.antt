@@ -20,11 +20,11 @@ use Rattle.ipa_logic.specs.Renaming.{Embeds, embed_values}
 use Rattle.ipa_logic.specs.RestrictionLaws.{IsDroppable-embed, plain_application-embed, instance_true-embed}
 use Rattle.ipa_logic.specs.declared.facts.Fact.{Fact}
 use Rattle.ipa_ground.specs.FactsLaws.{AreShort-from_fit}
-use Rattle.ipa_ground.specs.InstanceLaws.{IsUniverse-any}
-use Rattle.ipa_ground.specs.Patterns.{AreSorts, IsPattern, PatternFor}
+use Rattle.ipa_ground.specs.Patterns.{AreSorts, PatternFor}
 use Rattle.ipa_ground.specs.SamePattern.{pattern_for}
-use Rattle.ipa_reduction.specs.Cases.{drop_sorts, drop_universe, drop_args, drop_values, AreDropArguments, DropBreaksOn, DropBreaksOnSome}
+use Rattle.ipa_reduction.specs.Cases.{constant_counts, drop_sorts, IsDropPattern, drop_universe, drop_args, drop_values, AreDropArguments, DropBreaksOn, DropBreaksOnSome}
 use Rattle.ipa_reduction.specs.PartLaws.{IsPart, IsPart-front, IsPart-second, IsOver-args_at}
+use Rattle.ipa_reduction.proofs.SizesLemmas.{AreConstants-counts, IsUniverse-pattern}
 use Rattle.ipa_reduction.proofs.SortsLemmas.{AreSorts-append, AreSorts-action, AreSorts-clause, few-values}
 use Rattle.ipa_reduction.proofs.ElementsLemmas.{AreElements, taken, length-taken, AreElements-taken, AreElements-append}
 use Rattle.ipa_reduction.proofs.RenamedParts.{embedding, part-stands}
@@ -48,11 +48,11 @@ module _ (s : Specification) (fit : IsFit s) (n k : ℕ) (c : Clause) (g : slice
   values-part = IsPart-second (sorts_of s (Drop n)) (sorts_of_vars c.vars) (length (sorts_of s (Drop n))) refl
 
   -- the classes of a pattern are arguments and values over its universe
-  pub drop-arguments : (classes : List ℕ) → IsPattern (drop_sorts s n c) classes → AreDropArguments s n c classes
+  pub drop-arguments : (classes : List ℕ) → IsDropPattern s n c classes → AreDropArguments s n c classes
   drop-arguments classes is_pattern = record {
-    sizes = IsUniverse-any s (drop_universe s n c classes) fit;
-    args = IsOver-args_at (drop_sorts s n c) classes 0 (sorts_of s (Drop n)) sorts-drop is_pattern args-part (fit.argument_count (Drop n));
-    values = IsOver-args_at (drop_sorts s n c) classes (length (sorts_of s (Drop n))) (sorts_of_vars c.vars) sorts-drop is_pattern values-part (few-values s fit k c g);
+    sizes = IsUniverse-pattern s fit (drop_sorts s n c) classes sorts-drop is_pattern;
+    args = IsOver-args_at (constant_counts s) (drop_sorts s n c) classes 0 (sorts_of s (Drop n)) (AreConstants-counts s fit) sorts-drop is_pattern args-part (fit.argument_count (Drop n));
+    values = IsOver-args_at (constant_counts s) (drop_sorts s n c) classes (length (sorts_of s (Drop n))) (sorts_of_vars c.vars) (AreConstants-counts s fit) sorts-drop is_pattern values-part (few-values s fit k c g);
   }
 
   module _ (b : Bound) (large : Universe) (args values : List ℕ) (before : List Fact) (h : IsDropBreakAt s b n c large args values before) where
@@ -67,7 +67,7 @@ module _ (s : Specification) (fit : IsFit s) (n k : ℕ) (c : Clause) (g : slice
     are-elements = AreElements-append large (sorts_of s (Drop n)) (sorts_of_vars c.vars) (taken (sorts_of s (Drop n)) args) (taken (sorts_of_vars c.vars) values) args-long
         (AreElements-taken large (sorts_of s (Drop n)) args h.droppable.arguments) (AreElements-taken large (sorts_of_vars c.vars) values h.clause_values)
 
-    module _ (p : PatternFor (drop_sorts s n c) elements) where
+    module _ (p : PatternFor (constant_counts s) (drop_sorts s n c) elements) where
       -- the pattern's universe, and the elements of the large one that its classes stand for
       abbrev small : Universe
       small = drop_universe s n c p.classes
@@ -76,16 +76,16 @@ module _ (s : Specification) (fit : IsFit s) (n k : ℕ) (c : Clause) (g : slice
       to = p.renames.to
 
       embeds : Embeds s small large to
-      embeds = embedding s fit (drop_sorts s n c) p.classes elements large sorts-drop p.is_pattern p.renames are-elements
+      embeds = embedding s fit (drop_sorts s n c) p.classes elements large sorts-drop p.is_pattern p.renames h.droppable.sizes are-elements
 
       -- the classes stand for the arguments and values
       args-stand : embed_values to (sorts_of s (Drop n)) (drop_args s n p.classes) ≡ args
-      args-stand = part-stands s fit (drop_sorts s n c) p.classes elements large sorts-drop p.is_pattern p.renames are-elements
+      args-stand = part-stands s fit (drop_sorts s n c) p.classes elements large sorts-drop p.is_pattern p.renames h.droppable.sizes are-elements
           0 (sorts_of s (Drop n)) args (fit.argument_count (Drop n)) args-part
           (IsPart-front (taken (sorts_of s (Drop n)) args) (taken (sorts_of_vars c.vars) values)) h.droppable.arguments
 
       values-stand : embed_values to (sorts_of_vars c.vars) (drop_values s n c p.classes) ≡ values
-      values-stand = part-stands s fit (drop_sorts s n c) p.classes elements large sorts-drop p.is_pattern p.renames are-elements
+      values-stand = part-stands s fit (drop_sorts s n c) p.classes elements large sorts-drop p.is_pattern p.renames h.droppable.sizes are-elements
           (length (sorts_of s (Drop n))) (sorts_of_vars c.vars) values (few-values s fit k c g) values-part
           (IsPart-second (taken (sorts_of s (Drop n)) args) (taken (sorts_of_vars c.vars) values) (length (sorts_of s (Drop n))) args-long) h.clause_values
 
@@ -128,7 +128,7 @@ breaks_on_some s n k b c fit declared g h =
     (subst (λ (x : Bound). IsDropBreakAt s x n h.clause h.universe h.args h.values h.before) bound_is
     h.breaks) in
     on_pattern s fit n k c g b h.universe h.args h.values h.before broken
-    (pattern_for (drop_sorts s n c) (elements s fit n k c g b h.universe h.args h.values h.before broken) (sorts-drop s fit n k c g))
+    (pattern_for (constant_counts s) (drop_sorts s n c) (elements s fit n k c g b h.universe h.args h.values h.before broken) (AreConstants-counts s fit) (sorts-drop s fit n k c g))
 
 -- a drop that breaks a clause on a pattern can break it
 pub breaks_from : (s : Specification) (n k : ℕ) (b : Bound) (c : Clause) (classes : List ℕ) → slice_get s.clauses k ≡ Some c → DropBreaksOn s n b c classes → DropBreaks s n k

@@ -18,11 +18,11 @@ use Rattle.ipa_logic.specs.Renaming.{Embeds, embed_values}
 use Rattle.ipa_logic.specs.RestrictionLaws.{IsConflictAt-embed}
 use Rattle.ipa_logic.specs.declared.facts.Fact.{Fact}
 use Rattle.ipa_ground.specs.FactsLaws.{AreShort-from_fit}
-use Rattle.ipa_ground.specs.InstanceLaws.{IsUniverse-any}
-use Rattle.ipa_ground.specs.Patterns.{AreSorts, IsPattern, PatternFor}
+use Rattle.ipa_ground.specs.Patterns.{AreSorts, PatternFor}
 use Rattle.ipa_ground.specs.SamePattern.{pattern_for}
-use Rattle.ipa_reduction.specs.Cases.{triple_sorts, triple_universe, left_args, right_args, triple_values, AreTripleArguments, ConflictOn, ConflictOnSome}
+use Rattle.ipa_reduction.specs.Cases.{constant_counts, triple_sorts, IsTriplePattern, triple_universe, left_args, right_args, triple_values, AreTripleArguments, ConflictOn, ConflictOnSome}
 use Rattle.ipa_reduction.specs.PartLaws.{IsPart, IsPart-front, IsPart-middle, IsPart-last, IsOver-args_at}
+use Rattle.ipa_reduction.proofs.SizesLemmas.{AreConstants-counts, IsUniverse-pattern}
 use Rattle.ipa_reduction.proofs.SortsLemmas.{AreSorts-append, AreSorts-action, AreSorts-clause, few-values}
 use Rattle.ipa_reduction.proofs.ElementsLemmas.{AreElements, taken, length-taken, AreElements-taken, AreElements-append}
 use Rattle.ipa_reduction.proofs.RenamedParts.{embedding, part-stands}
@@ -51,12 +51,12 @@ module _ (s : Specification) (fit : IsFit s) (left right : Action) (k : ℕ) (c 
   values-part = IsPart-last (sorts_of s left) (sorts_of s right) (sorts_of_vars c.vars) (length (sorts_of s left)) (length (sorts_of s right)) refl refl
 
   -- the classes of a pattern are arguments and values over its universe
-  pub triple-arguments : (classes : List ℕ) → IsPattern (triple_sorts s left right c) classes → AreTripleArguments s left right c classes
+  pub triple-arguments : (classes : List ℕ) → IsTriplePattern s left right c classes → AreTripleArguments s left right c classes
   triple-arguments classes is_pattern = record {
-    sizes = IsUniverse-any s (triple_universe s left right c classes) fit;
-    left = IsOver-args_at (triple_sorts s left right c) classes 0 (sorts_of s left) sorts-triple is_pattern left-part (fit.argument_count left);
-    right = IsOver-args_at (triple_sorts s left right c) classes (length (sorts_of s left)) (sorts_of s right) sorts-triple is_pattern right-part (fit.argument_count right);
-    values = IsOver-args_at (triple_sorts s left right c) classes (length (sorts_of s left) + length (sorts_of s right)) (sorts_of_vars c.vars) sorts-triple is_pattern values-part (few-values s fit k c g);
+    sizes = IsUniverse-pattern s fit (triple_sorts s left right c) classes sorts-triple is_pattern;
+    left = IsOver-args_at (constant_counts s) (triple_sorts s left right c) classes 0 (sorts_of s left) (AreConstants-counts s fit) sorts-triple is_pattern left-part (fit.argument_count left);
+    right = IsOver-args_at (constant_counts s) (triple_sorts s left right c) classes (length (sorts_of s left)) (sorts_of s right) (AreConstants-counts s fit) sorts-triple is_pattern right-part (fit.argument_count right);
+    values = IsOver-args_at (constant_counts s) (triple_sorts s left right c) classes (length (sorts_of s left) + length (sorts_of s right)) (sorts_of_vars c.vars) (AreConstants-counts s fit) sorts-triple is_pattern values-part (few-values s fit k c g);
   }
 
   module _ (large : Universe) (args_left args_right values : List ℕ) (place : ℕ) (after_left after_right : List Fact)
@@ -77,7 +77,7 @@ module _ (s : Specification) (fit : IsFit s) (left right : Action) (k : ℕ) (c 
         (AreElements-append large (sorts_of s right) (sorts_of_vars c.vars) (taken (sorts_of s right) args_right) (taken (sorts_of_vars c.vars) values) right-long
         (AreElements-taken large (sorts_of s right) args_right h.right_arguments) (AreElements-taken large (sorts_of_vars c.vars) values h.clause_values))
 
-    module _ (p : PatternFor (triple_sorts s left right c) elements) where
+    module _ (p : PatternFor (constant_counts s) (triple_sorts s left right c) elements) where
       -- the pattern's universe, and the elements of the large one that its classes stand for
       abbrev small : Universe
       small = triple_universe s left right c p.classes
@@ -86,21 +86,21 @@ module _ (s : Specification) (fit : IsFit s) (left right : Action) (k : ℕ) (c 
       to = p.renames.to
 
       embeds : Embeds s small large to
-      embeds = embedding s fit (triple_sorts s left right c) p.classes elements large sorts-triple p.is_pattern p.renames are-elements
+      embeds = embedding s fit (triple_sorts s left right c) p.classes elements large sorts-triple p.is_pattern p.renames h.sizes are-elements
 
       -- the classes stand for the arguments and values
       left-stands : embed_values to (sorts_of s left) (left_args s left p.classes) ≡ args_left
-      left-stands = part-stands s fit (triple_sorts s left right c) p.classes elements large sorts-triple p.is_pattern p.renames are-elements
+      left-stands = part-stands s fit (triple_sorts s left right c) p.classes elements large sorts-triple p.is_pattern p.renames h.sizes are-elements
           0 (sorts_of s left) args_left (fit.argument_count left) left-part
           (IsPart-front (taken (sorts_of s left) args_left) (taken (sorts_of s right) args_right ++ taken (sorts_of_vars c.vars) values)) h.left_arguments
 
       right-stands : embed_values to (sorts_of s right) (right_args s left right p.classes) ≡ args_right
-      right-stands = part-stands s fit (triple_sorts s left right c) p.classes elements large sorts-triple p.is_pattern p.renames are-elements
+      right-stands = part-stands s fit (triple_sorts s left right c) p.classes elements large sorts-triple p.is_pattern p.renames h.sizes are-elements
           (length (sorts_of s left)) (sorts_of s right) args_right (fit.argument_count right) right-part
           (IsPart-middle (taken (sorts_of s left) args_left) (taken (sorts_of s right) args_right) (taken (sorts_of_vars c.vars) values) (length (sorts_of s left)) left-long) h.right_arguments
 
       values-stand : embed_values to (sorts_of_vars c.vars) (triple_values s left right c p.classes) ≡ values
-      values-stand = part-stands s fit (triple_sorts s left right c) p.classes elements large sorts-triple p.is_pattern p.renames are-elements
+      values-stand = part-stands s fit (triple_sorts s left right c) p.classes elements large sorts-triple p.is_pattern p.renames h.sizes are-elements
           (length (sorts_of s left) + length (sorts_of s right)) (sorts_of_vars c.vars) values (few-values s fit k c g) values-part
           (IsPart-last (taken (sorts_of s left) args_left) (taken (sorts_of s right) args_right) (taken (sorts_of_vars c.vars) values) (length (sorts_of s left)) (length (sorts_of s right)) left-long right-long) h.clause_values
 
@@ -134,7 +134,7 @@ conflict_on_some s left right k c fit g h =
     let at : IsConflictAt s left right c h.universe h.left_args h.right_args h.values h.place h.after_left h.after_right =
     subst (λ (d : Clause). IsConflictAt s left right d h.universe h.left_args h.right_args h.values h.place h.after_left h.after_right) (same_Some h.clause c (sym h.declared ∙ g)) h.conflict in
     on_pattern s fit left right k c g h.universe h.left_args h.right_args h.values h.place h.after_left h.after_right at
-    (pattern_for (triple_sorts s left right c) (elements s fit left right k c g h.universe h.left_args h.right_args h.values h.place h.after_left h.after_right at) (sorts-triple s fit left right k c g))
+    (pattern_for (constant_counts s) (triple_sorts s left right c) (elements s fit left right k c g h.universe h.left_args h.right_args h.values h.place h.after_left h.after_right at) (AreConstants-counts s fit) (sorts-triple s fit left right k c g))
 
 -- a conflict on a pattern is a conflict
 pub conflict_from : (s : Specification) (left right : Action) (k : ℕ) (c : Clause) (classes : List ℕ) → IsAction s left → IsAction s right → slice_get s.clauses k ≡ Some c → ConflictOn s left right c classes → Conflict s left right k

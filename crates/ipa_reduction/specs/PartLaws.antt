@@ -14,9 +14,9 @@ use Rattle.std.proofs.lemmas.Bool.{cases_lt}
 use Rattle.std.proofs.lemmas.List.{get_or-take, get_or-drop, get_or_past, get_or_append_left, get_or-append_right, length-take}
 use Rattle.std.proofs.lemmas.Option.{slice_get_within}
 use Rattle.std.proofs.lemmas.Grind.{same_number_lists}
-use Rattle.ipa_logic.specs.Facts.{size_of}
+use Rattle.ipa_logic.specs.Facts.{Universe, size_of}
 use Rattle.ipa_logic.specs.Truth.{IsOver}
-use Rattle.ipa_ground.specs.Patterns.{AreSorts, IsPattern, pattern_universe, padded, four, args_at}
+use Rattle.ipa_ground.specs.Patterns.{AreConstants, AreSorts, IsPattern, pattern_universe, padded, four, args_at}
 use Rattle.ipa_ground.specs.ListLaws.{get-left, get-right, replicate-zero}
 use Rattle.ipa_ground.specs.SamePattern.{pattern-within}
 
@@ -97,12 +97,13 @@ args_at-padded from count classes = λ i. same 0 i ∷ same 1 i ∷ same 2 i ∷
     ]
 
 -- the classes of a part's variables are over the pattern's universe
-pub IsOver-args_at : (sorts classes : List ℕ) (from : ℕ) (part : List ℕ) → AreSorts sorts → IsPattern sorts classes → IsPart sorts from part → length part ≤ 4
-    → IsOver (pattern_universe sorts classes) part (args_at from (length part) classes)
-IsOver-args_at sorts classes from part are is_pattern is_part few = record {
-  elements = λ v sort e. subst (λ (x : ℕ). x < size_of (pattern_universe sorts classes) sort)
+pub IsOver-args_at : (constants : Universe) (sorts classes : List ℕ) (from : ℕ) (part : List ℕ) →
+    AreConstants constants → AreSorts sorts → IsPattern constants sorts classes → IsPart sorts from part →
+    length part ≤ 4 → IsOver (pattern_universe constants sorts classes) part (args_at from (length part) classes)
+IsOver-args_at constants sorts classes from part fixed are is_pattern is_part few = record {
+  elements = λ v sort e. subst (λ (x : ℕ). x < size_of (pattern_universe constants sorts classes) sort)
       (sym (args_at-at from (length part) classes v few (slice_get_within part v sort e)))
-      (pattern-within sorts classes are is_pattern (from + v) sort (is_part.at v sort e));
+      (pattern-within constants sorts classes fixed are is_pattern (from + v) sort (is_part.at v sort e));
   unused = λ v past. args_at-past from (length part) classes v past;
   width = refl;
 }

@@ -9,9 +9,9 @@ ghost use Rattle.ipa_spec.specs.declared.operations.Action.{Action};
 ghost use Rattle.ipa_spec.specs.declared.operations.Action.TheVariants.{Drop};
 ghost use Rattle.ipa_logic.specs.Conflicts.{Conflict, falsifies_some, can_break, is_live};
 ghost use Rattle.ipa_logic.specs.Acceptance.{DropBreaks};
-ghost use Rattle.ipa_ground.specs.Patterns.{AreSorts, IsPattern};
+ghost use Rattle.ipa_ground.specs.Patterns.{AreConstants, AreSorts};
 ghost use Rattle.ipa_ground.specs.Places.{AreSmall};
-ghost use Rattle.ipa_reduction.specs.Cases.{triple_sorts, triple_universe, AreTripleArguments, ConflictOn, ConflictOnSome, drop_sorts, drop_universe, drop_args, drop_values, AreDropArguments, DropBreaksOn, DropBreaksOnSome};
+ghost use Rattle.ipa_reduction.specs.Cases.{constant_counts, triple_sorts, IsTriplePattern, triple_universe, AreTripleArguments, ConflictOn, ConflictOnSome, drop_sorts, IsDropPattern, drop_universe, drop_args, drop_values, AreDropArguments, DropBreaksOn, DropBreaksOnSome};
 
 /// Two actions conflict on a clause only where each of them could, by predicates and kinds, make a literal of it
 /// false.
@@ -21,7 +21,8 @@ pub fn conflicts_are_live()
 {}
 
 /// Two actions conflict on a clause, over some universe, exactly where they do on some pattern of
-/// their variables.
+/// their variables: both states can be restricted to the constants and to the elements that the
+/// variables name.
 pub fn conflicts_are_on_patterns()
     ensures some { (s : Specification) (left right : Action) (k : ℕ) (c : Clause) → IsFit s → slice_get s.clauses k ≡ Some c
         → Conflict s left right k → ConflictOnSome s left right c }
@@ -47,24 +48,26 @@ pub fn unsafe_drops_are_on_patterns()
         → DropBreaksOn s n b c classes → DropBreaks s n k }
 {}
 
-/// A triple has at most twelve variables. The universe of each of its patterns is small, and the
+/// No sort has more than four constants, and a triple has at most twelve variables. The universe of each of its patterns is small, and the
 /// pattern's classes are arguments and values over it.
 pub fn patterns_of_triples_fit()
+    ensures constants { (s : Specification) → IsFit s → AreConstants (constant_counts s) }
     ensures few { (s : Specification) (left right : Action) (k : ℕ) (c : Clause) → IsFit s → slice_get s.clauses k ≡ Some c → length (triple_sorts s left right c) ≤ 12 }
     ensures sorts { (s : Specification) (left right : Action) (k : ℕ) (c : Clause) → IsFit s → slice_get s.clauses k ≡ Some c → AreSorts (triple_sorts s left right c) }
     ensures small { (s : Specification) (left right : Action) (k : ℕ) (c : Clause) (classes : List ℕ) → IsFit s → slice_get s.clauses k ≡ Some c
-        → IsPattern (triple_sorts s left right c) classes → AreSmall (triple_universe s left right c classes) }
+        → IsTriplePattern s left right c classes → AreSmall (triple_universe s left right c classes) }
     ensures arguments { (s : Specification) (left right : Action) (k : ℕ) (c : Clause) (classes : List ℕ) → IsFit s → slice_get s.clauses k ≡ Some c
-        → IsPattern (triple_sorts s left right c) classes → AreTripleArguments s left right c classes }
+        → IsTriplePattern s left right c classes → AreTripleArguments s left right c classes }
 {}
 
-/// A drop and a clause have few enough variables for a pattern. The universe of each of their patterns
+/// No sort has more than four constants, and a drop and a clause have few enough variables for a pattern. The universe of each of their patterns
 /// is small, and the pattern's classes are arguments and values over it.
 pub fn patterns_of_drops_fit()
+    ensures constants { (s : Specification) → IsFit s → AreConstants (constant_counts s) }
     ensures few { (s : Specification) (n k : ℕ) (c : Clause) → IsFit s → slice_get s.clauses k ≡ Some c → length (drop_sorts s n c) ≤ 12 }
     ensures sorts { (s : Specification) (n k : ℕ) (c : Clause) → IsFit s → slice_get s.clauses k ≡ Some c → AreSorts (drop_sorts s n c) }
     ensures small { (s : Specification) (n k : ℕ) (c : Clause) (classes : List ℕ) → IsFit s → slice_get s.clauses k ≡ Some c
-        → IsPattern (drop_sorts s n c) classes → AreSmall (drop_universe s n c classes) }
+        → IsDropPattern s n c classes → AreSmall (drop_universe s n c classes) }
     ensures arguments { (s : Specification) (n k : ℕ) (c : Clause) (classes : List ℕ) → IsFit s → slice_get s.clauses k ≡ Some c
-        → IsPattern (drop_sorts s n c) classes → AreDropArguments s n c classes }
+        → IsDropPattern s n c classes → AreDropArguments s n c classes }
 {}

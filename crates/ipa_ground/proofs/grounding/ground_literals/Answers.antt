@@ -9,7 +9,7 @@ use Rattle.ipa_ground.proofs.grounding.ground_literals.Goals.{in-False, in-Depen
 
 pub ground_literal-requires-clause-fact : goal.ground_literal-requires-clause-fact
 ground_literal-requires-clause-fact c =
-    FactFits-read _ _ _ c.args.clause.now c.loop-literal.literal-index _ c.as_slice-literal-items.result.now c.requires.ready.fit c.requires.fits c.requires.over c.as_slice-literal-items.ensures c.loop-literal-test.true
+    FactFits-read _ _ _ c.args.clause.now c.loop-literal.literal-index _ c.as_slice-literal-items.result.now c.requires.ready.sizes c.requires.fits c.requires.over c.as_slice-literal-items.ensures c.loop-literal-test.true
     (get_or_default _ _ _ _ c.loop-literal-test.true)
 
 pub returns-in-True : goal.returns-in-True

@@ -7,7 +7,7 @@ use Rattle.ipa_models.proofs.question.tie_literals.Goals as goal
 
 pub tie_literal-requires-clause-fact : goal.tie_literal-requires-clause-fact
 tie_literal-requires-clause-fact c =
-    FactFits-read _ _ _ c.args.clause.now c.loop-literal.literal-index _ c.as_slice-literal-items.result.now c.requires.numbered.fit c.requires.fits c.requires.over c.as_slice-literal-items.ensures c.loop-literal-test.true
+    FactFits-read _ _ _ c.args.clause.now c.loop-literal.literal-index _ c.as_slice-literal-items.result.now c.requires.numbered.sizes c.requires.fits c.requires.over c.as_slice-literal-items.ensures c.loop-literal-test.true
     (get_or_default _ _ _ _ c.loop-literal-test.true)
 
 pub tie_literal-requires-clause-few : goal.tie_literal-requires-clause-few

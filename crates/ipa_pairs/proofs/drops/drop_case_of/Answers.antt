@@ -1,6 +1,6 @@
 use Rattle.std.proofs.Common.{refl, sym, subst, arith}
 use Rattle.ipa_ground.specs.Places.{AreSmall}
-use Rattle.ipa_reduction.specs.Cases.{drop_sorts}
+use Rattle.ipa_reduction.specs.Cases.{constant_counts, drop_sorts}
 use Rattle.ipa_pairs.specs.Openness.{IsOverDropCase}
 use Rattle.ipa_pairs.specs.Patterned.{classes_of}
 use Rattle.ipa_pairs.proofs.CaseLemmas.{drop-case-is, over-drop-case, pattern-len, pattern-sizes}
@@ -9,12 +9,12 @@ use Rattle.ipa_pairs.proofs.drops.drop_case_of.Goals as goal
 pub args_from-requires-clause-len : goal.args_from-requires-clause-len
 args_from-requires-clause-len c =
     let few = c.patterns_of_drops_fit.ensures.few c.args.spec.now c.args.bound c.args.number c.args.clause.now c.spec_is_fit.ensures.fit c.requires.declared in
-    omega (arith, few, pattern-len (drop_sorts c.args.spec.now c.args.bound c.args.clause.now) c.args.pattern.now c.requires.pattern)
+    omega (arith, few, pattern-len (constant_counts c.args.spec.now) (drop_sorts c.args.spec.now c.args.bound c.args.clause.now) c.args.pattern.now c.requires.pattern)
 
 pub args_from-requires-2-clause-len : goal.args_from-requires-2-clause-len
 args_from-requires-2-clause-len c =
     let few = c.patterns_of_drops_fit.ensures.few c.args.spec.now c.args.bound c.args.number c.args.clause.now c.spec_is_fit.ensures.fit c.requires.declared in
-    omega (arith, few, pattern-len (drop_sorts c.args.spec.now c.args.bound c.args.clause.now) c.args.pattern.now c.requires.pattern)
+    omega (arith, few, pattern-len (constant_counts c.args.spec.now) (drop_sorts c.args.spec.now c.args.bound c.args.clause.now) c.args.pattern.now c.requires.pattern)
 
 pub overflow_cast-len : goal.overflow_cast-len
 overflow_cast-len c = omega (arith, c.len.ensures, c.spec_is_fit.ensures.fit.variable_count c.args.number c.args.clause.now c.requires.declared)
@@ -34,6 +34,6 @@ returns-clause-over c =
 
 pub returns-clause-small : goal.returns-clause-small
 returns-clause-small c =
-    subst AreSmall (sym (pattern-sizes (drop_sorts c.args.spec.now c.args.bound c.args.clause.now) c.args.pattern.now c.requires.pattern))
+    subst AreSmall (sym (pattern-sizes (constant_counts c.args.spec.now) (drop_sorts c.args.spec.now c.args.bound c.args.clause.now) c.args.pattern.now c.requires.pattern))
     (c.patterns_of_drops_fit.ensures.small c.args.spec.now c.args.bound c.args.number c.args.clause.now (classes_of c.args.pattern.now)
     c.spec_is_fit.ensures.fit c.requires.declared c.requires.pattern.is_pattern)

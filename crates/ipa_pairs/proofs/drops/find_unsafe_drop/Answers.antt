@@ -1,8 +1,8 @@
 use Rattle.std.proofs.Common.{◌≡◌, Some, sym, ◌∙◌, subst, slice_get, rules}
 use Rattle.std.proofs.lemmas.Bool.{false≢true}
 use Rattle.std.proofs.lemmas.Option.{MatchOption-at_none, MatchOption-at_some}
-use Rattle.ipa_ground.specs.Patterns.{AreSorts}
-use Rattle.ipa_reduction.specs.Cases.{drop_sorts, DropBreaksOn}
+use Rattle.ipa_ground.specs.Patterns.{AreConstants, AreSorts}
+use Rattle.ipa_reduction.specs.Cases.{constant_counts, drop_sorts, DropBreaksOn}
 use Rattle.ipa_pairs.proofs.TriedLemmas.{Tried, tried-here, tried-next}
 use Rattle.ipa_pairs.proofs.ReportLemmas.{reported-drop, no-break}
 use Rattle.ipa_pairs.proofs.drops.find_unsafe_drop.Goals as goal
@@ -27,17 +27,22 @@ new-patterns-requires-clause-sorts c =
     subst AreSorts (sym (c.as_slice.ensures ∙ c.drop_sorts-sorts.ensures))
     (c.patterns_of_drops_fit.ensures.sorts c.args.spec.now c.args.bound c.args.number c.in-Some-get.clause.now c.spec_is_fit.ensures.fit declared)
 
+pub new-patterns-requires-clause-constants : goal.new-patterns-requires-clause-constants
+new-patterns-requires-clause-constants c =
+    subst AreConstants (sym c.constant_counts-constants.ensures)
+    (c.patterns_of_drops_fit.ensures.constants c.args.spec.now c.spec_is_fit.ensures.fit)
+
 pub drop_break_on-requires-clause-pattern : goal.drop_break_on-requires-clause-pattern
 drop_break_on-requires-clause-pattern c =
     let On = DropBreaksOn c.args.spec.now c.args.bound c.in-Some.declared.now c.in-Some-get.clause.now in
     let sorts = drop_sorts c.args.spec.now c.args.bound c.in-Some-get.clause.now in
-    tried-here On sorts c.in-Some-next.pattern c.next.new.self (subst (Tried On sorts) c.in-Some-next.ensures c.loop-pattern.invariant.0)
+    tried-here On (constant_counts c.args.spec.now) sorts c.in-Some-next.pattern c.next.new.self (subst (Tried On (constant_counts c.args.spec.now) sorts) c.in-Some-next.ensures c.loop-pattern.invariant.0)
 
 pub loop-pattern-preserved : goal.loop-pattern-preserved
 loop-pattern-preserved c =
     let On = DropBreaksOn c.args.spec.now c.args.bound c.in-Some.declared.now c.in-Some-get.clause.now in
     let sorts = drop_sorts c.args.spec.now c.args.bound c.in-Some-get.clause.now in (
-      tried-next On sorts c.in-Some-next.pattern c.next.new.self (subst (Tried On sorts) c.in-Some-next.ensures c.loop-pattern.invariant.0)
+      tried-next On (constant_counts c.args.spec.now) sorts c.in-Some-next.pattern c.next.new.self (subst (Tried On (constant_counts c.args.spec.now) sorts) c.in-Some-next.ensures c.loop-pattern.invariant.0)
           (MatchOption-at_none _ _ c.in-None.is c.in_ok-drop_break_on.ensures.found),
       c.drop_break_on.ensures.of,
     )
@@ -53,7 +58,7 @@ returns-in-Some-2 c =
       of = c.drop_break_on.ensures.of;
       found = (
         reported-drop c.args.spec.now c.in-Some-2.found c.args.bound c.args.number found.1.0 found.1.1 c.in-Some.declared.now c.in-Some-get.clause.now bound declared c.in-Some-next.pattern c.next.new.self
-            (subst (Tried On sorts) c.in-Some-next.ensures c.loop-pattern.invariant.0) found.0,
+            (subst (Tried On (constant_counts c.args.spec.now) sorts) c.in-Some-next.ensures c.loop-pattern.invariant.0) found.0,
         found.1,
       );
     }

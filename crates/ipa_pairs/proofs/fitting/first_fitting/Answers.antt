@@ -35,7 +35,7 @@ first-requires-clause-facts c =
     (gathered.facts c.args.spec.now c.args.models.now.universe (subst (AreOfFacts c.args.spec.now c.args.models.now.universe) (sym asks_are)
     (of-facts c.args.spec.now c.spec_is_fit.ensures.fit c.args.models.now.universe c.args.action c.args.args.now c.args.values.now (sorts_of_vars c.args.clause.now.vars) c.args.literal.now c.args.wanted
     (c.spec_is_fit.ensures.fit.literals c.requires.declared.place c.requires.literal.place c.args.clause.now c.args.literal.now c.requires.declared.there c.requires.literal.there)
-    c.requires.values c.requires.args))))
+    c.requires.values c.requires.args c.requires.universe))))
 
 pub returns : goal.returns
 returns c =

@@ -1,8 +1,8 @@
 use Rattle.std.proofs.Common.{◌≡◌, Some, sym, ◌∙◌, subst, slice_get, rules}
 use Rattle.std.proofs.lemmas.Bool.{false≢true}
 use Rattle.std.proofs.lemmas.Option.{MatchOption-at_none, MatchOption-at_some}
-use Rattle.ipa_ground.specs.Patterns.{AreSorts}
-use Rattle.ipa_reduction.specs.Cases.{triple_sorts, ConflictOn}
+use Rattle.ipa_ground.specs.Patterns.{AreConstants, AreSorts}
+use Rattle.ipa_reduction.specs.Cases.{constant_counts, triple_sorts, ConflictOn}
 use Rattle.ipa_pairs.proofs.TriedLemmas.{Tried, tried-here, tried-next}
 use Rattle.ipa_pairs.proofs.ReportLemmas.{reported-here, no-conflict}
 use Rattle.ipa_pairs.proofs.triples.find_conflict.Goals as goal
@@ -27,11 +27,16 @@ new-patterns-requires-clause-sorts c =
     subst AreSorts (sym (c.as_slice.ensures ∙ c.triple_sorts-sorts.ensures))
     (c.patterns_of_triples_fit.ensures.sorts c.args.spec.now c.args.left c.args.right c.args.number c.in-Some.clause.now c.spec_is_fit.ensures.fit declared)
 
+pub new-patterns-requires-clause-constants : goal.new-patterns-requires-clause-constants
+new-patterns-requires-clause-constants c =
+    subst AreConstants (sym c.constant_counts-constants.ensures)
+    (c.patterns_of_triples_fit.ensures.constants c.args.spec.now c.spec_is_fit.ensures.fit)
+
 pub conflict_on-requires-clause-pattern : goal.conflict_on-requires-clause-pattern
 conflict_on-requires-clause-pattern c =
     let In = ConflictOn c.args.spec.now c.args.left c.args.right c.in-Some.clause.now in
     let sorts = triple_sorts c.args.spec.now c.args.left c.args.right c.in-Some.clause.now in
-    tried-here In sorts c.in-Some-next.pattern c.next.new.self (subst (Tried In sorts) c.in-Some-next.ensures c.loop-pattern.invariant.0)
+    tried-here In (constant_counts c.args.spec.now) sorts c.in-Some-next.pattern c.next.new.self (subst (Tried In (constant_counts c.args.spec.now) sorts) c.in-Some-next.ensures c.loop-pattern.invariant.0)
 
 pub returns-in-Some-2 : goal.returns-in-Some-2
 returns-in-Some-2 c =
@@ -43,7 +48,7 @@ returns-in-Some-2 c =
       of = c.conflict_on.ensures.of;
       found = (
         reported-here c.args.spec.now c.args.left c.args.right c.args.number c.in-Some.clause.now c.in-Some-next.pattern c.next.new.self c.in-Some-2.conflict declared
-            (subst (Tried In sorts) c.in-Some-next.ensures c.loop-pattern.invariant.0) found.0 found.1,
+            (subst (Tried In (constant_counts c.args.spec.now) sorts) c.in-Some-next.ensures c.loop-pattern.invariant.0) found.0 found.1,
         found.1,
       );
     }
@@ -52,7 +57,7 @@ pub loop-pattern-preserved : goal.loop-pattern-preserved
 loop-pattern-preserved c =
     let In = ConflictOn c.args.spec.now c.args.left c.args.right c.in-Some.clause.now in
     let sorts = triple_sorts c.args.spec.now c.args.left c.args.right c.in-Some.clause.now in (
-      tried-next In sorts c.in-Some-next.pattern c.next.new.self (subst (Tried In sorts) c.in-Some-next.ensures c.loop-pattern.invariant.0)
+      tried-next In (constant_counts c.args.spec.now) sorts c.in-Some-next.pattern c.next.new.self (subst (Tried In (constant_counts c.args.spec.now) sorts) c.in-Some-next.ensures c.loop-pattern.invariant.0)
           (MatchOption-at_none _ _ c.in-None.is c.in_ok-conflict_on.ensures.found),
       c.conflict_on.ensures.of,
     )

@@ -4,16 +4,19 @@ use Rattle.ipa_ground.proofs.CountLemmas.{counts-none, counts-more, counts-fit, 
 use Rattle.ipa_ground.proofs.patterns.Patterns.count.Goals as goal
 
 pub loop-sort-init : goal.loop-sort-init
-loop-sort-init c = counts-none _
+loop-sort-init c = counts-none _ _
 
-pub set_partitions-count-requires : goal.set_partitions-count-requires
-set_partitions-count-requires c = omega (arith, c.variables_of.ensures, count_by-le-length (λ other. other == c.loop-sort.sort) c.args.sorts.now)
+pub ways-count-requires : goal.ways-count-requires
+ways-count-requires c = record {
+  few = omega (arith, c.variables_of.ensures, count_by-le-length (λ other. other == c.loop-sort.sort) c.args.sorts.now);
+  used = c.requires.constants.most c.loop-sort.sort;
+}
 
 pub overflow_mul-count : goal.overflow_mul-count
-overflow_mul-count c = omega (arith, counts-fit _ _ _ c.requires.few (counts-more _ _ _ _ _ c.variables_of.ensures c.set_partitions-count.ensures.value c.set_partitions-count.ensures.bound c.loop-sort.invariant))
+overflow_mul-count c = omega (arith, counts-fit _ _ _ _ c.requires.few (counts-more _ _ _ _ _ _ c.variables_of.ensures c.ways-count.ensures.value c.ways-count.ensures.bound c.loop-sort.invariant))
 
 pub loop-sort-preserved : goal.loop-sort-preserved
-loop-sort-preserved c = counts-more _ _ _ _ _ c.variables_of.ensures c.set_partitions-count.ensures.value c.set_partitions-count.ensures.bound c.loop-sort.invariant
+loop-sort-preserved c = counts-more _ _ _ _ _ _ c.variables_of.ensures c.ways-count.ensures.value c.ways-count.ensures.bound c.loop-sort.invariant
 
 pub returns : goal.returns
-returns c = counts-all _ _ _ c.requires.sorts (omega arith) c.loop-sort.invariant
+returns c = counts-all _ _ _ _ c.requires.constants c.requires.sorts (omega arith) c.loop-sort.invariant
