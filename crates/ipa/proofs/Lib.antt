@@ -1,1 +1,4 @@
-mod VerdictLemmas
+pub mod VerdictLemmas
+pub mod StepLemmas
+pub mod AnswerLemmas
+pub mod RepairLemmas

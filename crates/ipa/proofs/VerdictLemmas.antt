@@ -1,8 +1,11 @@
 -- An input has one verdict.
 --
---   AreOne        the laws that this stands on: there is one reading, one analysis, and one first triple that is too wide
---   one-judged    a specification has one status and text
---   one-verdict   an input has one
+--   AreOne                 the laws that this stands on: there is one reading, one analysis, and one first triple that is
+--                          too wide
+--   IsOne Says             there is one status and text of which `Says` tells
+--   one-after_length, one-after_reading, one-after_width, one-after_acceptance
+--                          each of the first cases keeps this
+--   one-check              an input has one verdict of `check`
 use Rattle.std.proofs.Common.{◌≡◌, ℕ, List, refl, sym, ap, ◌∙◌, subst, arith}
 use Rattle.ipa_spec.specs.Fits.{IsFit}
 use Rattle.ipa_spec.specs.Limits.{IsFaultless}
@@ -16,10 +19,12 @@ use Rattle.ipa_reader.specs.declared.document.Document.{Document}
 use Rattle.ipa_reader.specs.declared.refusals.DocKind.{DocKind}
 use Rattle.ipa_report.specs.Reports.{report_text}
 use Rattle.ipa_report.specs.Refusals.{refusal_text, too_wide_text}
-use Rattle.ipa.specs.Verdicts.{IsRefusal, IsTooWide, IsReport, IsJudged, IsJudgedAs, Verdict}
-use Rattle.ipa.specs.Verdicts.Verdict.{too_long, unread, judged}
+use Rattle.ipa.specs.Verdicts.{IsRefusal, IsWidthRefusal, IsReport, AfterLength, AfterReading, AfterWidth, AfterAcceptance, IsAcceptance, IsChecked, CheckVerdict, longest_document}
+use Rattle.ipa.specs.Verdicts.AfterLength.{too_long, within}
+use Rattle.ipa.specs.Verdicts.AfterReading.{unread, read}
+use Rattle.ipa.specs.Verdicts.AfterWidth.{too_wide, narrow}
+use Rattle.ipa.specs.Verdicts.AfterAcceptance.{rejected, accepted}
 use Rattle.ipa.specs.declared.status.Status.{Status}
-use Rattle.ipa.specs.declared.status.Status.TheVariants.{Done, Rejected, Refused}
 
 -- there is one reading of a text, one analysis of a specification, and one first triple that is too wide
 pub record AreOne : Type 0 where
@@ -30,54 +35,61 @@ pub record AreOne : Type 0 where
   pub analysis : (s : Specification) (one other : Analysis) → IsFit s → IsAnalysis s one → IsAnalysis s other → one ≡ other
   pub too_wide : (s : Specification) (t u : Triple) (count other : ℕ) → IsFirstTooWide s (IsDeclared s) t count → IsFirstTooWide s (IsDeclared s) u other → (t ≡ u) × (count ≡ other)
 
+-- there is one status and text of which `Says` tells
+abbrev pub IsOne : (Status → List ℕ → Type 0) → Type 0
+IsOne Says = (status end : Status) (text other : List ℕ) → Says status text → Says end other → (status ≡ end) × (text ≡ other)
+
+pub one-after_length : (most : ℕ) (bytes : List ℕ) (Later : Status → List ℕ → Type 0) → IsOne Later → IsOne (AfterLength most bytes Later)
+one-after_length most bytes Later one status end text other (too_long l s t) (too_long m u v) = (s ∙ sym u, t ∙ sym v)
+one-after_length most bytes Later one status end text other (too_long l s t) (within m k) = absurd (omega arith)
+one-after_length most bytes Later one status end text other (within l h) (too_long m u v) = absurd (omega arith)
+one-after_length most bytes Later one status end text other (within l h) (within m k) = one status end text other h k
+
 -- where a triple is too wide, not all are narrow
-not_narrow : (s : Specification) (text : List ℕ) → IsTooWide s text → IsNarrow s (IsDeclared s) → ⊥
-not_narrow s text h narrow = narrow.narrow (record { left = h.left; right = h.right; clause = h.clause }) h.first.in_question h.first.too_wide
+not_narrow : (s : Specification) (text : List ℕ) → IsWidthRefusal s text → IsNarrow s (IsDeclared s) → ⊥
+not_narrow s text h all = all.narrow (record { left = h.left; right = h.right; clause = h.clause }) h.first.in_question h.first.too_wide
 
 module _ (laws : AreOne) where
   one-report : (s : Specification) (text other : List ℕ) → IsFit s → IsReport s text → IsReport s other → text ≡ other
   one-report s text other fit h k = h.text_is ∙ (ap (report_text s) (laws.analysis s h.analysis k.analysis fit h.rejected.analysis k.rejected.analysis) ∙ sym k.text_is)
 
-  one-too-wide : (s : Specification) (text other : List ℕ) → IsTooWide s text → IsTooWide s other → text ≡ other
-  one-too-wide s text other h k =
+  one-width_refusal : (s : Specification) (text other : List ℕ) → IsWidthRefusal s text → IsWidthRefusal s other → text ≡ other
+  one-width_refusal s text other h k =
       let parts = laws.too_wide s (record { left = h.left; right = h.right; clause = h.clause }) (record { left = k.left; right = k.right; clause = k.clause }) h.count k.count h.first k.first in
       h.text_is ∙ ((λ i. let t : Triple = parts.0 i in too_wide_text s t.left t.right t.clause (parts.1 i)) ∙ sym k.text_is)
-
-  -- a specification has one status and text
-  one-judged : (s : Specification) → IsFit s → (status end : Status) (text other : List ℕ) → IsJudged s status text → IsJudged s end other → (status ≡ end) × (text ≡ other)
-  one-judged s fit Done Done text other h k = (refl, h.text_is ∙ sym k.text_is)
-  one-judged s fit Done Rejected text other h k = absurd (k.rejected.not_accepted h.accepted)
-  one-judged s fit Done Refused text other h k = absurd (not_narrow s other k h.narrow)
-  one-judged s fit Rejected Done text other h k = absurd (h.rejected.not_accepted k.accepted)
-  one-judged s fit Rejected Rejected text other h k = (refl, one-report s text other fit h k)
-  one-judged s fit Rejected Refused text other h k = absurd (not_narrow s other k h.rejected.analysis.narrow)
-  one-judged s fit Refused Done text other h k = absurd (not_narrow s text h k.narrow)
-  one-judged s fit Refused Rejected text other h k = absurd (not_narrow s text h k.rejected.analysis.narrow)
-  one-judged s fit Refused Refused text other h k = (refl, one-too-wide s text other h k)
-  one-judged s fit Done end text other h k = absurd k
-  one-judged s fit Rejected end text other h k = absurd k
-  one-judged s fit Refused end text other h k = absurd k
-  one-judged s fit status end text other h k = absurd h
 
   one-refusal : (bytes text other : List ℕ) → IsRefusal bytes text → IsRefusal bytes other → text ≡ other
   one-refusal bytes text other h k =
       let parts = laws.refusals bytes h.line k.line h.kind k.kind h.refused k.refused in
       h.text_is ∙ ((λ i. refusal_text (parts.0 i) (parts.1 i)) ∙ sym k.text_is)
 
-  one-judged-as : (bytes : List ℕ) (status end : Status) (text other : List ℕ) → IsJudgedAs bytes status text → IsJudgedAs bytes end other → (status ≡ end) × (text ≡ other)
-  one-judged-as bytes status end text other h k =
-      let same : k.document ≡ h.document = laws.documents bytes k.document h.document k.reads h.reads in
-      one-judged h.document.spec (IsFit-from_faultless h.document.spec (laws.faultless bytes h.document h.reads)) status end text other h.judged
-      (subst (λ (d : Document). IsJudged d.spec end other) same k.judged)
+  pub one-after_acceptance : (s : Specification) → IsFit s → (Later : Status → List ℕ → Type 0) → IsOne Later → IsOne (AfterAcceptance s Later)
+  one-after_acceptance s fit Later one status end text other (rejected l h) (rejected m k) = (l ∙ sym m, one-report s text other fit h k)
+  one-after_acceptance s fit Later one status end text other (rejected l h) (accepted m k) = absurd (h.rejected.not_accepted m)
+  one-after_acceptance s fit Later one status end text other (accepted l h) (rejected m k) = absurd (k.rejected.not_accepted l)
+  one-after_acceptance s fit Later one status end text other (accepted l h) (accepted m k) = one status end text other h k
 
-  -- an input has one verdict
-  pub one-verdict : (bytes text other : List ℕ) (status end : Status) → Verdict bytes status text → Verdict bytes end other → (status ≡ end) × (text ≡ other)
-  one-verdict bytes text other status end (too_long l s t) (too_long m u v) = (s ∙ sym u, t ∙ sym v)
-  one-verdict bytes text other status end (too_long l s t) (unread m u k) = absurd (omega arith)
-  one-verdict bytes text other status end (too_long l s t) (judged m k) = absurd (omega arith)
-  one-verdict bytes text other status end (unread l s h) (too_long m u v) = absurd (omega arith)
-  one-verdict bytes text other status end (unread l s h) (unread m u k) = (s ∙ sym u, one-refusal bytes text other h k)
-  one-verdict bytes text other status end (unread l s h) (judged m k) = absurd (laws.apart bytes k.document h.line h.kind k.reads h.refused)
-  one-verdict bytes text other status end (judged l h) (too_long m u v) = absurd (omega arith)
-  one-verdict bytes text other status end (judged l h) (unread m u k) = absurd (laws.apart bytes h.document k.line k.kind h.reads k.refused)
-  one-verdict bytes text other status end (judged l h) (judged m k) = one-judged-as bytes status end text other h k
+  pub one-after_width : (s : Specification) (Later : Status → List ℕ → Type 0) → IsOne Later → IsOne (AfterWidth s Later)
+  one-after_width s Later one status end text other (too_wide l h) (too_wide m k) = (l ∙ sym m, one-width_refusal s text other h k)
+  one-after_width s Later one status end text other (too_wide l h) (narrow m k) = absurd (not_narrow s text h m)
+  one-after_width s Later one status end text other (narrow l h) (too_wide m k) = absurd (not_narrow s other k l)
+  one-after_width s Later one status end text other (narrow l h) (narrow m k) = one status end text other h k
+
+  -- what comes later has to be one only for the document that the bytes read as
+  pub one-after_reading : (bytes : List ℕ) (Later : Document → Status → List ℕ → Type 0) → ((document : Document) → ReadsAs bytes document → IsFit document.spec → IsOne (Later document)) → IsOne (AfterReading bytes Later)
+  one-after_reading bytes Later one status end text other (unread l h) (unread m k) = (l ∙ sym m, one-refusal bytes text other h k)
+  one-after_reading bytes Later one status end text other (unread l h) (read d m k) = absurd (laws.apart bytes d h.line h.kind m h.refused)
+  one-after_reading bytes Later one status end text other (read d l h) (unread m k) = absurd (laws.apart bytes d k.line k.kind l k.refused)
+  one-after_reading bytes Later one status end text other (read d l h) (read e m k) =
+      let same : e ≡ d = laws.documents bytes e d m l in
+      one d l (IsFit-from_faultless d.spec (laws.faultless bytes d l)) status end text other h
+      (subst (λ (f : Document). Later f end other) same k)
+
+  -- an input has one verdict of `check`
+  pub one-check : (bytes : List ℕ) → IsOne (CheckVerdict bytes)
+  one-check bytes =
+      one-after_length longest_document bytes (IsChecked bytes)
+      (one-after_reading bytes (λ document. AfterWidth document.spec (AfterAcceptance document.spec IsAcceptance))
+      (λ document reads fit. one-after_width document.spec (AfterAcceptance document.spec IsAcceptance)
+      (one-after_acceptance document.spec fit IsAcceptance
+      (λ status end text other h k. (h.status_is ∙ sym k.status_is, h.text_is ∙ sym k.text_is)))))

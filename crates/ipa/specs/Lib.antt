@@ -1,5 +1,5 @@
 pub mod Statuses
 pub mod Verdicts
 pub mod Answers
-pub mod Unread
+pub mod Steps
 pub mod Commands

@@ -1,14 +1,23 @@
--- The verdict of `check` on an input: a status and a text. The first that applies counts: the input is too long, has
--- no reading as a document, has a triple that is too wide, is not accepted, is accepted.
+-- The verdict of a command on an input: a status and a text. The first case that applies counts. The cases that come
+-- first are the same for all commands, and stand here once; a command says which of them it has, and what comes
+-- `Later`, as a fact of a status and a text.
 --
---   greatest_input               the greatest number of bytes that an input may have
---   IsRefusal bytes text         the bytes have no reading as a document, and the text is the line that says so
---   IsTooWide s text             a live triple has too many patterns, and the text names the first
---   IsReport s text              the specification is not accepted, and the text is the report of its analysis
---   IsAcceptance s text          no triple is too wide and the specification is accepted, as the text says
---   IsJudged s status text       the status and the text for a specification
---   IsJudgedAs bytes status text   those for the specification of the document that the bytes read as
---   Verdict bytes status text    the status and the text for an input
+--   AfterLength most bytes Later status text    the input is too long; or what comes later is this
+--   AfterReading bytes Later status text        the bytes have no reading as a document; or what comes later, for the
+--                                               document that they read as, is this
+--   AfterWidth s Later status text              a live triple is too wide; or what comes later is this
+--   AfterAcceptance s Later status text         the specification is not accepted; or what comes later is this
+--   IsRefusal bytes text                        the bytes have no reading, and the text is the line that says so
+--   IsWidthRefusal s text                       a live triple has too many patterns, and the text names the first
+--   IsReport s text                             the specification is not accepted, and the text is the report of its
+--                                               analysis
+--   longest_document                            the greatest number of bytes of an input that is a document
+--   IsChecked bytes status text                 what `check` says of an input that is not too long
+--   CheckVerdict bytes status text              what `check` says of an input
+--   repaired_status repaired                    whether a repair is done or stuck, as a status
+--   IsRepairOf s status text                    the status and the text are those of the greedy repair
+--   IsRepairJudged bytes status text            what `repair` says of an input that is not too long
+--   RepairVerdict bytes status text             what `repair` says of an input
 use Rattle.std.specs.Prelude.{◌≡◌, ℕ, ◌<◌, ◌≤◌, List, length, codes}
 use Rattle.ipa_spec.specs.declared.specification.Specification.{Specification}
 use Rattle.ipa_spec.specs.declared.operations.Action.{Action}
@@ -19,20 +28,17 @@ use Rattle.ipa_pairs.specs.declared.analysis.Analysis.{Analysis}
 use Rattle.ipa_reader.specs.Documents.{ReadsAs, IsRefused}
 use Rattle.ipa_reader.specs.declared.document.Document.{Document}
 use Rattle.ipa_reader.specs.declared.refusals.DocKind.{DocKind}
+use Rattle.ipa_repair.specs.Greedy.{IsRepaired}
+use Rattle.ipa_repair.specs.declared.steps.Repaired.{Repaired}
+use Rattle.ipa_repair.specs.declared.steps.Repaired.TheVariants as end
+use Rattle.ipa_report.specs.RepairTexts.{repair_text}
 use Rattle.ipa_report.specs.Reports.{report_text}
 use Rattle.ipa_report.specs.Refusals.{refusal_text, too_wide_text}
 use Rattle.ipa.specs.declared.status.Status.{Status}
 use Rattle.ipa.specs.declared.status.Status.TheVariants.{Done, Rejected, Refused}
 
--- the greatest number of bytes that an input may have
-abbrev pub greatest_input : ℕ
-greatest_input = 4194304
-
 abbrev pub too_long_text : List ℕ
 too_long_text = codes "refused: too long\n"
-
-abbrev pub accepted_text : List ℕ
-accepted_text = codes "accepted\n"
 
 -- the bytes have no reading as a document, and the text is the line that says so
 pub record IsRefusal (bytes text : List ℕ) : Type 0 where
@@ -42,7 +48,7 @@ pub record IsRefusal (bytes text : List ℕ) : Type 0 where
   pub text_is : text ≡ refusal_text line kind
 
 -- a live triple has too many patterns, and the text names the first
-pub record IsTooWide (s : Specification) (text : List ℕ) : Type 0 where
+pub record IsWidthRefusal (s : Specification) (text : List ℕ) : Type 0 where
   pub left : Action
   pub right : Action
   pub clause : ℕ
@@ -56,27 +62,73 @@ pub record IsReport (s : Specification) (text : List ℕ) : Type 0 where
   pub rejected : IsRejected s analysis
   pub text_is : text ≡ report_text s analysis
 
--- no triple is too wide and the specification is accepted, as the text says
-pub record IsAcceptance (s : Specification) (text : List ℕ) : Type 0 where
-  pub narrow : IsNarrow s (IsDeclared s)
-  pub accepted : IsAccepted s
+-- the input has more bytes than the command takes; or what comes later is this
+pub data AfterLength (most : ℕ) (bytes : List ℕ) (Later : Status → List ℕ → Type 0) (status : Status)
+    (text : List ℕ) : Type 0 where
+  too_long : most < length bytes → status ≡ Refused → text ≡ too_long_text → AfterLength most bytes Later status text
+  within : length bytes ≤ most → Later status text → AfterLength most bytes Later status text
+
+-- the bytes have no reading as a document; or what comes later, for the document that they read as, is this
+pub data AfterReading (bytes : List ℕ) (Later : Document → Status → List ℕ → Type 0) (status : Status)
+    (text : List ℕ) : Type 0 where
+  unread : status ≡ Refused → IsRefusal bytes text → AfterReading bytes Later status text
+  read : (document : Document) → ReadsAs bytes document → Later document status text →
+      AfterReading bytes Later status text
+
+-- a live triple is too wide; or what comes later is this
+pub data AfterWidth (s : Specification) (Later : Status → List ℕ → Type 0) (status : Status) (text : List ℕ) : Type 0
+  where
+    too_wide : status ≡ Refused → IsWidthRefusal s text → AfterWidth s Later status text
+    narrow : IsNarrow s (IsDeclared s) → Later status text → AfterWidth s Later status text
+
+-- the specification is not accepted; or what comes later is this
+pub data AfterAcceptance (s : Specification) (Later : Status → List ℕ → Type 0) (status : Status) (text : List ℕ) :
+    Type 0 where
+  rejected : status ≡ Rejected → IsReport s text → AfterAcceptance s Later status text
+  accepted : IsAccepted s → Later status text → AfterAcceptance s Later status text
+
+-- nothing comes later: what is said of a step is one of its own cases
+abbrev pub Nothing : Status → List ℕ → Type 0
+Nothing status text = ⊥
+
+-- the greatest number of bytes of an input that is a document
+abbrev pub longest_document : ℕ
+longest_document = 4194304
+
+abbrev pub accepted_text : List ℕ
+accepted_text = codes "accepted\n"
+
+-- what `check` says of an accepted specification
+pub record IsAcceptance (status : Status) (text : List ℕ) : Type 0 where
+  pub status_is : status ≡ Done
   pub text_is : text ≡ accepted_text
 
--- the status and the text for a specification
-abbrev pub IsJudged : Specification → Status → List ℕ → Type 0
-IsJudged s Done text = IsAcceptance s text
-IsJudged s Rejected text = IsReport s text
-IsJudged s Refused text = IsTooWide s text
-IsJudged s _ text = ⊥
+-- what `check` says of an input that is not too long
+abbrev pub IsChecked : List ℕ → Status → List ℕ → Type 0
+IsChecked bytes status text =
+    AfterReading bytes (λ document. AfterWidth document.spec (AfterAcceptance document.spec IsAcceptance)) status text
 
--- the status and the text for the specification of the document that the bytes read as
-pub record IsJudgedAs (bytes : List ℕ) (status : Status) (text : List ℕ) : Type 0 where
-  pub document : Document
-  pub reads : ReadsAs bytes document
-  pub judged : IsJudged document.spec status text
+-- what `check` says of an input
+abbrev pub CheckVerdict : List ℕ → Status → List ℕ → Type 0
+CheckVerdict bytes status text = AfterLength longest_document bytes (IsChecked bytes) status text
 
--- the status and the text for an input
-pub data Verdict (bytes : List ℕ) (status : Status) (text : List ℕ) : Type 0 where
-  too_long : greatest_input < length bytes → status ≡ Refused → text ≡ too_long_text → Verdict bytes status text
-  unread : length bytes ≤ greatest_input → status ≡ Refused → IsRefusal bytes text → Verdict bytes status text
-  judged : length bytes ≤ greatest_input → IsJudgedAs bytes status text → Verdict bytes status text
+-- the repair is done, or stuck
+abbrev pub repaired_status : Repaired → Status
+repaired_status (end.Done next steps) = Done
+repaired_status (end.Stuck s steps analysis) = Rejected
+
+-- the status and the text are those of the greedy repair
+pub record IsRepairOf (s : Specification) (status : Status) (text : List ℕ) : Type 0 where
+  pub repaired : Repaired
+  pub is_repaired : IsRepaired s repaired
+  pub status_is : status ≡ repaired_status repaired
+  pub text_is : text ≡ repair_text repaired
+
+-- what `repair` says of an input that is not too long
+abbrev pub IsRepairJudged : List ℕ → Status → List ℕ → Type 0
+IsRepairJudged bytes status text =
+    AfterReading bytes (λ document. AfterWidth document.spec (IsRepairOf document.spec)) status text
+
+-- what `repair` says of an input
+abbrev pub RepairVerdict : List ℕ → Status → List ℕ → Type 0
+RepairVerdict bytes status text = AfterLength longest_document bytes (IsRepairJudged bytes) status text

@@ -1,98 +1,63 @@
 //! The command `check`.
-ghost use Rattle.std.specs.Prelude.{◌≡◌, ◌≢◌, ◌≤◌, ◌⊎◌, true, false, IfOk, IfErr};
-ghost use Rattle.std.specs.Io.KnownBytes.{IsAtEnd};
-ghost use Rattle.ipa_base.specs.Faults.{Rose};
-ghost use Rattle.ipa.specs.Statuses.{is_cut_off, is_of_input};
-ghost use Rattle.ipa.specs.Verdicts.{Verdict};
-ghost use Rattle.ipa.specs.Answers.{IsPart, IsVerdictOn, IsWhole};
-ghost use Rattle.ipa.specs.Unread.{IsUnanswered};
+ghost use Rattle.std.specs.Prelude.{◌≡◌, ◌≤◌, length};
+ghost use Rattle.ipa.specs.Statuses.{is_of_input};
+ghost use Rattle.ipa.specs.Steps.{Ends, IsAnswered, IsJudgement};
+ghost use Rattle.ipa.specs.Verdicts.{CheckVerdict, IsChecked, longest_document};
+ghost use Rattle.ipa.specs.Answers.{AnswersInput};
 
 use crate::Status;
-use crate::judging::{Answer, bytes_of, judge};
-use ipa_base::{ReadEnd, Sink, Source, WriteFault, read_all, write_all};
-use std::alloc::{AllocError, Global};
+use crate::answers::{Answer, Stop, text_answer};
+use crate::edges::{read_input, write_answer};
+use crate::judging::{accepted_of, document_of};
+use ipa_base::{Sink, Source};
+use std::alloc::Global;
 use std::thread::Threads;
 
-const GREATEST_INPUT: u32 = 4_194_304;
+/// The greatest number of bytes of an input that is a document.
+pub(crate) const LONGEST_DOCUMENT: u32 = 4_194_304;
 
-/// Why there is no answer to an input.
-#[derive(Clone, Copy)]
-pub(crate) enum Unanswered {
-    /// The source failed.
-    ReadFault,
-    /// Memory ran out.
-    NoMemory,
-}
-
-impl From<AllocError> for Unanswered {
-    ghost use Rattle.ipa.specs.declared.checking.Unanswered.TheVariants.{NoMemory};
-
-    ghost from_gives = { λ _ end. end ≡ NoMemory };
-
-    fn from(_: AllocError) -> Unanswered {
-        Unanswered::NoMemory
-    }
-}
-
-/// The verdict on what the source holds, or why there is none.
-fn answer_of<S: Source>(alloc: Global, source: &mut S) -> Result<Answer, Unanswered>
-    ensures verdict { IfOk result (λ answer. IsVerdictOn Verdict (S.left source.old) answer.status answer.text.items) }
-    ensures status { IfOk result (λ answer. is_of_input answer.status ≡ true) }
-    ensures end { IfOk result (λ answer. answer.status ≢ Status.Refused → IsAtEnd (S.left source.new)) }
-    ensures fault { IfErr result (IsUnanswered (S.faults source.old) (S.faults source.new)) }
-    ensures count { S.faults source.old ≤ S.faults source.new }
+/// What `check` says of an input that is not too long.
+fn judge<R: Threads + Sync>(rt: &R, alloc: Global, bytes: &[u8]) -> Result<Answer, Stop>
+    requires { length bytes.now ≤ longest_document }
+    ensures { Ends ⊥ (IsJudgement is_of_input (IsChecked bytes.now)) result }
 {
-    match read_all(alloc, source, GREATEST_INPUT) {
-        Ok(bytes) => Ok(judge(alloc, &bytes)?),
-        Err(ReadEnd::TooLong) => Ok(Answer {
-            status: Status::Refused,
-            text: bytes_of(alloc, "refused: too long\n")?,
-        }),
-        Err(ReadEnd::ReadFault) => Err(Unanswered::ReadFault),
-        Err(ReadEnd::NoMemory) => Err(Unanswered::NoMemory),
-    }
+    let document = document_of(alloc, bytes)?;
+    let _accepted = accepted_of(rt, alloc, &document.spec)?;
+    Ok(text_answer(alloc, Status::Done, "accepted\n")?)
+}
+
+/// What `check` answers to what the source holds.
+fn answer_of<R: Threads + Sync, S: Source>(
+    rt: &R,
+    alloc: Global,
+    source: &mut S,
+) -> Result<Answer, Stop>
+    ensures { IsAnswered is_of_input CheckVerdict (S.left source.old) (S.left source.new) (S.faults source.old) (S.faults source.new) result }
+{
+    let bytes = read_input(alloc, source, LONGEST_DOCUMENT)?;
+    judge(rt, alloc, &bytes)
 }
 
 /// Reads a document from the source, and writes to the sink `accepted`, or the report of its conflicts and unsafe
 /// drops, or the line that refuses it: the verdict on the bytes that the source held. The text is made whole before
 /// its first byte is written.
 pub fn check_command<R: Threads + Sync, S: Source, K: Sink>(
-    _rt: &R,
+    rt: &R,
     alloc: Global,
     source: &mut S,
     sink: &mut K,
 ) -> Status
-    ensures on_verdict { is_cut_off result ≡ false →
-        IsWhole Verdict (S.left source.old) result (K.written sink.old) (K.written sink.new) }
-
-    // The source failed in this call, and nothing was written.
-    ensures on_read_fault { result ≡ Status.ReadFault →
-        Rose (S.faults source.old) (S.faults source.new) }
-    ensures unwritten_on_read_fault { result ≡ Status.ReadFault → sink.new ≡ sink.old }
-
-    // The sink failed in this call, and a part of the verdict's text has gone out.
-    ensures on_write_fault { result ≡ Status.WriteFault →
-        Rose (K.faults sink.old) (K.faults sink.new) }
-    ensures part_on_write_fault { result ≡ Status.WriteFault →
-        IsPart Verdict (S.left source.old) (K.written sink.old) (K.written sink.new) }
-
-    ensures unwritten_on_no_memory { result ≡ Status.NoMemory → sink.new ≡ sink.old }
-    ensures read_to_end { (result ≡ Status.Done) ⊎ (result ≡ Status.Rejected) →
-        IsAtEnd (S.left source.new) }
-    ensures not_usage { result ≢ Status.Usage }
-    ensures not_full { result ≢ Status.Full }
-
-    // On every outcome.
-    ensures read_faults { S.faults source.old ≤ S.faults source.new }
-    ensures write_faults { K.faults sink.old ≤ K.faults sink.new }
+    ensures { AnswersInput is_of_input CheckVerdict (sink.new ≡ sink.old) (record {
+      left_before = S.left source.old;
+      left_after = S.left source.new;
+      read_faults_before = S.faults source.old;
+      read_faults_after = S.faults source.new;
+      written_before = K.written sink.old;
+      written_after = K.written sink.new;
+      write_faults_before = K.faults sink.old;
+      write_faults_after = K.faults sink.new;
+    }) result }
 {
-    let answer = match answer_of(alloc, source) {
-        Ok(answer) => answer,
-        Err(Unanswered::ReadFault) => return Status::ReadFault,
-        Err(Unanswered::NoMemory) => return Status::NoMemory,
-    };
-    match write_all(sink, &answer.text) {
-        Ok(()) => answer.status,
-        Err(WriteFault) => Status::WriteFault,
-    }
+    let ended = answer_of(rt, alloc, source);
+    write_answer(sink, ended)
 }

@@ -1,39 +1,54 @@
 //! The commands by their words.
-ghost use Rattle.std.specs.Prelude.{◌≡◌, ◌↔◌, IsTrue};
-ghost use Rattle.ipa.specs.Verdicts.{Verdict};
+ghost use Rattle.std.specs.Prelude.{◌≡◌, ◌≤◌};
+ghost use Rattle.ipa.specs.Statuses.{is_of_input};
+ghost use Rattle.ipa.specs.Steps.{IsSaid};
+ghost use Rattle.ipa.specs.Verdicts.{CheckVerdict, RepairVerdict};
 ghost use Rattle.ipa.specs.Answers.{AnswersInput};
-ghost use Rattle.ipa.specs.Commands.{AnswersUsage, IsCheck};
+ghost use Rattle.ipa.specs.Commands.{command_of, named_by_word, usage_text};
 
-use crate::{Status, check_command};
-use ipa_base::{Sink, Source, WriteFault, write_all};
+use crate::edges::write_text;
+use crate::{Status, check_command, repair_command};
+use ipa_base::{Sink, Source};
 use std::alloc::Global;
 use std::thread::Threads;
 
 const USAGE: &str =
     "usage: ipa check | repair | simulate NUMBER [WEATHER] | simulate --generate NUMBER | audit | run [WEATHER]\n";
 
-/// Whether the words name the command `check`.
-fn is_check(words: &[String]) -> bool
-    ensures { IsTrue result ↔ IsCheck words.now }
+/// A command, as words name it.
+#[derive(Clone, Copy, Debug, PartialEq, Eq)]
+pub enum Command {
+    /// Judges a document.
+    Check,
+    /// Repairs a document's specification.
+    Repair,
+}
+
+/// The command that one word names.
+fn named_by_word(word: &str) -> Option<Command>
+    ensures { result ≡ named_by_word word.now }
 {
-    match words.split_first() {
-        Some((word, later)) => word.as_str() == "check" && later.is_empty(),
-        None => false,
+    if word == "check" {
+        Some(Command::Check)
+    } else if word == "repair" {
+        Some(Command::Repair)
+    } else {
+        None
     }
 }
 
-/// Writes the usage line.
-fn write_usage<K: Sink>(sink: &mut K) -> Status
-    ensures { AnswersUsage (K.written sink.old) (K.written sink.new) (K.faults sink.old) (K.faults sink.new) result }
+/// The command that the words name, or `None` where they match no row of the table of commands.
+pub fn command_of(words: &[String]) -> Option<Command>
+    ensures { result ≡ command_of words.now }
 {
-    match write_all(sink, USAGE.as_bytes()) {
-        Ok(()) => Status::Usage,
-        Err(WriteFault) => Status::WriteFault,
+    match words {
+        [word] => named_by_word(word.as_str()),
+        _ => None,
     }
 }
 
-/// Does what the words name, which are those behind the program's own name. Words that match no row of the table of
-/// commands read nothing, and the usage line is written.
+/// Does what the words name, which are those behind the program's own name. Words that name no command read nothing,
+/// and the usage line is written.
 pub fn ipa_main<R: Threads + Sync, S: Source, K: Sink>(
     rt: &R,
     alloc: Global,
@@ -41,7 +56,7 @@ pub fn ipa_main<R: Threads + Sync, S: Source, K: Sink>(
     source: &mut S,
     sink: &mut K,
 ) -> Status
-    ensures check { IsCheck words.now → AnswersInput Verdict (record {
+    ensures check { command_of words.now ≡ Some Command.Check → AnswersInput is_of_input CheckVerdict (sink.new ≡ sink.old) (record {
       left_before = S.left source.old;
       left_after = S.left source.new;
       read_faults_before = S.faults source.old;
@@ -51,13 +66,24 @@ pub fn ipa_main<R: Threads + Sync, S: Source, K: Sink>(
       write_faults_before = K.faults sink.old;
       write_faults_after = K.faults sink.new;
     }) result }
-    ensures unread { (IsCheck words.now → ⊥) → source.new ≡ source.old }
-    ensures usage { (IsCheck words.now → ⊥) →
-        AnswersUsage (K.written sink.old) (K.written sink.new) (K.faults sink.old) (K.faults sink.new) result }
+    ensures repair { command_of words.now ≡ Some Command.Repair → AnswersInput is_of_input RepairVerdict (sink.new ≡ sink.old) (record {
+      left_before = S.left source.old;
+      left_after = S.left source.new;
+      read_faults_before = S.faults source.old;
+      read_faults_after = S.faults source.new;
+      written_before = K.written sink.old;
+      written_after = K.written sink.new;
+      write_faults_before = K.faults sink.old;
+      write_faults_after = K.faults sink.new;
+    }) result }
+    ensures unread { command_of words.now ≡ None → source.new ≡ source.old }
+    ensures usage { command_of words.now ≡ None →
+        IsSaid (K.written sink.old) (K.written sink.new) (K.faults sink.old) (K.faults sink.new) usage_text Status.Usage result }
+    ensures usage_count { command_of words.now ≡ None → K.faults sink.old ≤ K.faults sink.new }
 {
-    if is_check(words) {
-        check_command(rt, alloc, source, sink)
-    } else {
-        write_usage(sink)
+    match command_of(words) {
+        Some(Command::Check) => check_command(rt, alloc, source, sink),
+        Some(Command::Repair) => repair_command(rt, alloc, source, sink),
+        None => write_text(sink, USAGE.as_bytes(), Status::Usage),
     }
 }

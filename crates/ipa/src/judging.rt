@@ -1,65 +1,27 @@
-//! The verdict on an input.
-ghost use Rattle.std.specs.Prelude.{◌≡◌, ◌≤◌, length, true, IfOk};
+//! The steps between the input and the result of a command: the document, and the verdict on its specification.
+ghost use Rattle.std.specs.Prelude.{◌≡◌, ◌^◌, ◌<◌, length, IfOk, IfErr, OnOk};
+ghost use Rattle.ipa_reader.specs.Documents.{ReadsAs};
+ghost use Rattle.ipa_logic.specs.Acceptance.{IsAccepted};
+ghost use Rattle.ipa_pairs.specs.Analyses.{IsRejected};
+ghost use Rattle.ipa_pairs.specs.Width.{IsDeclared, IsFirstTooWide, IsNarrow};
 ghost use Rattle.ipa_report.specs.Refusals.{refusal_text};
 ghost use Rattle.ipa.specs.Statuses.{is_of_input};
-ghost use Rattle.ipa.specs.Verdicts.{IsJudged, Verdict};
+ghost use Rattle.ipa.specs.Steps.{IsJudgement, StopsWith};
+ghost use Rattle.ipa.specs.Verdicts.{AfterAcceptance, AfterReading, AfterWidth, IsReport, IsWidthRefusal, Nothing};
 
 use crate::Status;
-use ipa_pairs::{AcceptFault, accept};
-use ipa_reader::{DocFault, DocKind, read_document};
+use crate::answers::{Answer, Stop};
+use ipa_pairs::{AcceptFault, Accepted, Analysis, accept};
+use ipa_reader::{DocFault, DocKind, Document, read_document};
 use ipa_report::{refusal, report, too_wide};
-use ipa_spec::Spec;
+use ipa_spec::{Action, Spec};
 use std::alloc::{AllocError, Global};
-
-/// A status and the text that is printed with it.
-#[derive(Drop)]
-pub(crate) struct Answer {
-    /// The status.
-    pub status: Status,
-    /// The text, whole.
-    pub text: Vec<u8>,
-}
-
-/// A text as bytes.
-pub(crate) fn bytes_of(alloc: Global, text: &str) -> Result<Vec<u8>, AllocError>
-    ensures { IfOk result (λ bytes. bytes.items ≡ text.now) }
-{
-    text.as_bytes().to_vec(alloc)
-}
-
-/// The answer to a specification: that it is accepted, the report of its analysis, or the refusal of a triple that
-/// is too wide.
-fn judge_spec(alloc: Global, spec: &Spec) -> Result<Answer, AllocError>
-    ensures judged { IfOk result (λ answer. IsJudged spec.now answer.status answer.text.items) }
-    ensures status { IfOk result (λ answer. is_of_input answer.status ≡ true) }
-{
-    match accept(alloc, spec.copy()?) {
-        Ok(_) => Ok(Answer {
-            status: Status::Done,
-            text: bytes_of(alloc, "accepted\n")?,
-        }),
-        Err(AcceptFault::Rejected(analysis)) => Ok(Answer {
-            status: Status::Rejected,
-            text: report(alloc, spec, &analysis)?,
-        }),
-        Err(
-            AcceptFault::TooWide {
-                left,
-                right,
-                clause,
-                count,
-            },
-        ) => Ok(Answer {
-            status: Status::Refused,
-            text: too_wide(alloc, spec, left, right, clause, count)?,
-        }),
-        Err(AcceptFault::NoMemory) => Err(AllocError),
-    }
-}
+use std::thread::Threads;
 
 /// The answer to a document that is refused at a line.
 fn refuse(alloc: Global, line: u32, kind: &DocKind) -> Result<Answer, AllocError>
-    ensures { IfOk result (λ answer. (answer.status ≡ Status.Refused) × (answer.text.items ≡ refusal_text line kind.now)) }
+    ensures status { IfOk result (λ answer. answer.status ≡ Status.Refused) }
+    ensures text { IfOk result (λ answer. answer.text.items ≡ refusal_text line kind.now) }
 {
     Ok(Answer {
         status: Status::Refused,
@@ -67,15 +29,80 @@ fn refuse(alloc: Global, line: u32, kind: &DocKind) -> Result<Answer, AllocError
     })
 }
 
-/// The verdict on an input that is not too long.
-pub(crate) fn judge(alloc: Global, bytes: &[u8]) -> Result<Answer, AllocError>
-    requires { length bytes.now ≤ 4194304 }
-    ensures verdict { IfOk result (λ answer. Verdict bytes.now answer.status answer.text.items) }
-    ensures status { IfOk result (λ answer. is_of_input answer.status ≡ true) }
+/// The document that the bytes read as.
+///
+/// # Errors
+/// The answer to bytes that have no reading; or memory ran out.
+pub(crate) fn document_of(alloc: Global, bytes: &[u8]) -> Result<Document, Stop>
+    requires { length bytes.now < 2 ^ 31 }
+    ensures document { IfOk result (ReadsAs bytes.now) }
+    ensures stop { IfErr result (StopsWith ⊥ (IsJudgement is_of_input (AfterReading bytes.now (λ _. Nothing)))) }
 {
     match read_document(alloc, bytes) {
-        Ok(document) => judge_spec(alloc, &document.spec),
-        Err(DocFault::At { line, kind }) => refuse(alloc, line, &kind),
-        Err(DocFault::NoMemory) => Err(AllocError),
+        Ok(document) => Ok(document),
+        Err(DocFault::At { line, kind }) => Err(Stop::Answered(refuse(alloc, line, &kind)?)),
+        Err(DocFault::NoMemory) => Err(Stop::NoMemory),
+    }
+}
+
+/// The answer to a specification with a triple that is too wide, of which this is the first.
+pub(crate) fn refuse_width(
+    alloc: Global,
+    spec: &Spec,
+    left: Action,
+    right: Action,
+    clause: u8,
+    count: u64,
+) -> Result<Answer, AllocError>
+    requires { IsFirstTooWide spec.now (IsDeclared spec.now) (record { left = left; right = right; clause = clause }) count }
+    ensures status { IfOk result (λ answer. answer.status ≡ Status.Refused) }
+    ensures text { IfOk result (λ answer. IsWidthRefusal spec.now answer.text.items) }
+{
+    Ok(Answer {
+        status: Status::Refused,
+        text: too_wide(alloc, spec, left, right, clause, count)?,
+    })
+}
+
+/// The answer to a specification that is not accepted, of which this is the analysis.
+pub(crate) fn reject(alloc: Global, spec: &Spec, analysis: &Analysis) -> Result<Answer, AllocError>
+    requires { IsRejected spec.now analysis.now }
+    ensures status { IfOk result (λ answer. answer.status ≡ Status.Rejected) }
+    ensures text { IfOk result (λ answer. IsReport spec.now answer.text.items) }
+{
+    Ok(Answer {
+        status: Status::Rejected,
+        text: report(alloc, spec, analysis)?,
+    })
+}
+
+/// The specification as one that is accepted.
+///
+/// # Errors
+/// The answer to one with a triple that is too wide, or one that is not accepted; or memory ran out.
+pub(crate) fn accepted_of<R: Threads + Sync>(
+    rt: &R,
+    alloc: Global,
+    spec: &Spec,
+) -> Result<Accepted, Stop>
+    ensures same { IfOk result (λ accepted. accepted ≡ spec.now) }
+    ensures narrow { OnOk result (IsNarrow spec.now (IsDeclared spec.now)) }
+    ensures accepted { OnOk result (IsAccepted spec.now) }
+    ensures stop { IfErr result (StopsWith ⊥ (IsJudgement is_of_input (AfterWidth spec.now (AfterAcceptance spec.now Nothing)))) }
+{
+    match accept(rt, alloc, spec.copy()?) {
+        Ok(accepted) => Ok(accepted),
+        Err(AcceptFault::Rejected(analysis)) => Err(Stop::Answered(reject(
+            alloc, spec, &analysis,
+        )?)),
+        Err(
+            AcceptFault::TooWide {
+                left,
+                right,
+                clause,
+                count,
+            },
+        ) => Err(Stop::Answered(refuse_width(alloc, spec, left, right, clause, count)?)),
+        Err(AcceptFault::NoMemory) => Err(Stop::NoMemory),
     }
 }

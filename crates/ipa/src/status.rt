@@ -6,9 +6,9 @@ ghost use Rattle.ipa.specs.Statuses.{number_of};
 /// the document, a triple that is too wide, a specification that is not accepted.
 #[derive(Clone, Copy, Debug, PartialEq, Eq)]
 pub enum Status {
-    /// The input was read to its end and was accepted.
+    /// The input was read to its end and was accepted, or its repair is done.
     Done,
-    /// The specification is not accepted.
+    /// The specification is not accepted, or its repair is stuck.
     Rejected,
     /// The words match no row of the table of commands.
     Usage,

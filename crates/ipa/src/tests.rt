@@ -25,6 +25,32 @@ conflict elect(node#1) elect(node#2) breaks one(node#1,node#2)
 conflicts 1, unsafe drops 0
 ";
 
+/// Two operations of which each adds what excludes the other's fact.
+const EXCLUSIVE: &str = "\
+sort s1
+const c1: s1
+pred p1(s1) remwins
+pred p2(s1) addwins
+clause k1(sort:s1,v2:s1): not p1(sort) or not p2(v2) or v2 != sort
+op o1(a1:s1)
+need not p2(a1)
+add p1(a1)
+op o2(a1:s1)
+need not p1(a1)
+add p2(c1)
+add p2(a1)
+";
+
+const EXCLUSIVE_STEPS: &str = "\
+# pair o1 o2
+# offer 1: o2 del p1(*)
+# offer 2: o1 del p2(a1); flip p2
+# offer 3: o1 del p2(*); flip p2
+# offer 4: o2 del p1(a1); o2 del p1(c1)
+# applied 1
+# repaired 1
+";
+
 /// What `check` answers to some bytes that come in pieces of at most this size.
 fn checked<R: Threads + Sync>(
     rt: &R,
@@ -122,6 +148,33 @@ fn the_word_check_checks(rt: HostRuntime) -> Result<(), Fail> {
     let status = ipa_main(&rt, alloc, &words, &mut source, &mut sink);
     assert_eq!(rt; status.number(), 3);
     assert_eq!(rt; sink.bytes(), b"refused: line 1: byte\n".as_slice());
+    Ok(())
+}
+
+#[test]
+fn the_word_repair_prints_steps_and_what_they_lead_to(rt: HostRuntime) -> Result<(), Fail> {
+    let alloc = rt.alloc();
+    let words = vec![in alloc; "repair".to_string(alloc)?]?;
+    let repaired = format!(in alloc; "{EXCLUSIVE}del p1(*)\n")?;
+    for (document, wanted, steps, end) in [
+        ("", Status::Done, "", ""),
+        (LEADERS, Status::Rejected, "stuck\n", LEADERS_REPORT),
+        (EXCLUSIVE, Status::Done, EXCLUSIVE_STEPS, repaired.as_str()),
+        (
+            "sort cup;\n",
+            Status::Refused,
+            "",
+            "refused: line 1: byte\n",
+        ),
+    ] {
+        let bytes = document.as_bytes().to_vec(alloc)?;
+        let mut source = MemorySource::new(bytes, 4096, Vec::new(alloc));
+        let mut sink = MemorySink::new(alloc, 4096, Vec::new(alloc));
+        let status = ipa_main(&rt, alloc, &words, &mut source, &mut sink);
+        assert_eq!(rt; status, wanted);
+        let text = format!(in alloc; "{steps}{end}")?;
+        assert_eq!(rt; sink.bytes(), text.as_bytes());
+    }
     Ok(())
 }
 

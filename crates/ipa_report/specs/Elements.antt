@@ -1,6 +1,9 @@
--- How elements, facts, actions and clauses are printed in a report, where elements have no names of their own.
+-- How elements, facts, actions and clauses are printed in a report, where only constants have names of their own.
 --
---   element_text e                  the name of the element's sort, `#`, and its number counted from 1
+--   element_text e                  a constant's name; for any other element the name of its sort, `#`, and its number
+--                                   among all elements of the sort, counted from 1
+--   constant_at s sort number       the constant that is this element of the sort: a sort's first elements are its
+--                                   constants, in declared order
 --   elements_of s sorts numbers     the elements of these sorts with these numbers
 --   elements_text s sorts numbers   their texts in parentheses, with commas between them
 --   fact_text s f                   the predicate's name with the fact's elements
@@ -14,6 +17,8 @@ use Rattle.std.specs.Prelude.{ℕ, ◌+◌, List, [], ◌∷◌, ◌++◌, codes
 use Rattle.std.specs.List.{join_by, zip}
 use Rattle.std.specs.Option.{option_map_or}
 use Rattle.ipa_spec.specs.Actions.{place_sorts, sorts_of, sorts_of_vars}
+use Rattle.ipa_spec.specs.Constants.{constants_of}
+use Rattle.ipa_spec.specs.declared.constants.Constant.{Constant}
 use Rattle.ipa_spec.specs.declared.specification.Specification.{Specification}
 use Rattle.ipa_spec.specs.declared.names.Name.{Name}
 use Rattle.ipa_spec.specs.declared.clauses.Literal.{Literal}
@@ -24,18 +29,25 @@ use Rattle.ipa_logic.specs.Truth.{fact_of}
 use Rattle.ipa_logic.specs.declared.facts.Fact.{Fact}
 use Rattle.ipa_forms.specs.Layout.{name_text, listed_text}
 use Rattle.ipa_report.specs.declared.elements.Element.{Element}
+use Rattle.ipa_report.specs.declared.elements.Element.TheVariants.{Constant as Named, Numbered}
 
 -- a name, and nothing where there is none
 abbrev pub found_name_text : Option Name → List ℕ
 found_name_text name = option_map_or name_text name []
 
--- the name of the element's sort, `#`, and its number counted from 1
+-- a constant's name; for any other element the name of its sort, `#`, and its number counted from 1
 abbrev pub element_text : Element → List ℕ
-element_text e = found_name_text e.sort ++ codes "#" ++ decimal (e.number + 1)
+element_text (Named name) = name_text name
+element_text (Numbered sort number) = found_name_text sort ++ codes "#" ++ decimal (number + 1)
+
+-- the constant that is the element of the sort with this number
+abbrev pub constant_at : Specification → ℕ → ℕ → Option Constant
+constant_at s sort number = slice_get (constants_of s.constants sort) number
 
 -- the element of a sort with a number from 0
 abbrev pub element_of_sort : Specification → ℕ × ℕ → Element
-element_of_sort s (sort, number) = record { sort = slice_get s.sorts sort; number = number }
+element_of_sort s (sort, number) =
+    option_map_or (λ c. Named c.name) (constant_at s sort number) (Numbered (slice_get s.sorts sort) number)
 
 -- the elements of these sorts with these numbers
 abbrev pub elements_of : Specification → List ℕ → List ℕ → List Element

@@ -1,3 +1,4 @@
 pub mod Elements
 pub mod Reports
 pub mod Refusals
+pub mod RepairTexts

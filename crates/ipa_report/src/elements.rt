@@ -1,20 +1,26 @@
-//! Elements, as reports name them: by their sort and their number.
-ghost use Rattle.std.specs.Prelude.{◌≡◌, ◌+◌, ◌++◌, IfOk, OnOk};
+//! Elements, as reports name them: a constant by its name, any other by its sort and its number.
+ghost use Rattle.std.specs.Prelude.{◌≡◌, ◌+◌, ◌++◌, IfOk, OnOk, slice_get};
 ghost use Rattle.ipa_spec.specs.Actions.{place_sorts, sorts_of_vars};
-ghost use Rattle.ipa_report.specs.Elements.{element_text, element_of_sort, elements_of, elements_text, found_name_text};
+ghost use Rattle.ipa_spec.specs.Constants.{constants_of};
+ghost use Rattle.ipa_report.specs.Elements.{constant_at, element_text, element_of_sort, elements_of, elements_text, found_name_text};
 
 use ipa_forms::{Printed, write_list, write_name};
-use ipa_spec::{List, Name, Spec, Var};
+use ipa_spec::{Constant, List, Name, Spec, Var};
 use ipa_text::Page;
 use std::alloc::{AllocError, Global};
 
 /// An element of a sort.
 #[derive(Clone, Copy)]
-pub struct Element {
-    /// The name of its sort, where the specification has such a sort.
-    pub sort: Option<Name>,
-    /// Its number, from 0.
-    pub number: u16,
+pub enum Element {
+    /// The constant of this name.
+    Constant(Name),
+    /// An element that is no constant.
+    Numbered {
+        /// The name of its sort, where the specification has such a sort.
+        sort: Option<Name>,
+        /// Its number among all elements of the sort, from 0.
+        number: u16,
+    },
 }
 
 /// Prints a name, and nothing where there is none.
@@ -27,13 +33,23 @@ fn write_found_name(page: &mut Page, name: Option<Name>) -> Result<(), AllocErro
     }
 }
 
+/// Prints an element by its sort and its number.
+fn write_number(page: &mut Page, sort: Option<Name>, number: u16) -> Result<(), AllocError>
+    ensures { OnOk result (page.new ≡ page.old ++ element_text (Element.Numbered sort number)) }
+{
+    write_found_name(page, sort)?;
+    page.text("#")?;
+    page.number(u64::from(number) + 1)
+}
+
 impl Printed for Element {
     ghost shown = { element_text };
 
     fn write(&self, page: &mut Page) -> Result<(), AllocError> {
-        write_found_name(page, self.sort)?;
-        page.text("#")?;
-        page.number(u64::from(self.number) + 1)
+        match self {
+            Element::Constant(name) => write_name(page, *name),
+            Element::Numbered { sort, number } => write_number(page, *sort, *number),
+        }
     }
 }
 
@@ -59,13 +75,39 @@ pub(crate) fn place_sorts(alloc: Global, spec: &Spec, predicate: u8) -> Result<V
     }
 }
 
+/// The constant that is the element of a sort with this number, or `None` where that is no constant.
+fn constant_at(spec: &Spec, sort: u8, number: u16) -> Option<Constant>
+    ensures { result ≡ constant_at spec.now sort number }
+{
+    constant_behind(spec.constants().as_slice(), sort, number)
+}
+
+/// The constant of a sort behind this many others of the sort, or `None` where there are no more.
+fn constant_behind(constants: &[Constant], sort: u8, number: u16) -> Option<Constant>
+    ensures { result ≡ slice_get (constants_of constants.now sort) number }
+{
+    let mut left = number;
+    for constant in constants {
+        if constant.sort == sort {
+            if left == 0 {
+                return Some(*constant);
+            }
+            left -= 1;
+        }
+    }
+    None
+}
+
 /// The element of a sort with a number from 0.
 fn element_of_sort(spec: &Spec, sort: u8, number: u16) -> Element
     ensures { result ≡ element_of_sort spec.now (sort, number) }
 {
-    Element {
-        sort: spec.sorts().get(usize::from(sort)).copied(),
-        number,
+    match constant_at(spec, sort, number) {
+        Some(constant) => Element::Constant(constant.name),
+        None => Element::Numbered {
+            sort: spec.sorts().get(usize::from(sort)).copied(),
+            number,
+        },
     }
 }
 

@@ -10,7 +10,11 @@ use ipa_text::Page;
 use std::alloc::{AllocError, Global};
 
 /// Prints the name of a predicate.
-fn write_predicate_name(page: &mut Page, spec: &Spec, predicate: u8) -> Result<(), AllocError>
+pub(crate) fn write_predicate_name(
+    page: &mut Page,
+    spec: &Spec,
+    predicate: u8,
+) -> Result<(), AllocError>
     ensures { OnOk result (page.new ≡ page.old ++ predicate_name_text spec.now predicate) }
 {
     match spec.predicates().get(usize::from(predicate)) {

@@ -181,17 +181,25 @@ fn write_counts(page: &mut Page, conflicts: usize, unsafe_drops: usize) -> Resul
     page.text("\n")
 }
 
+/// Prints the report of an analysis.
+pub(crate) fn write_report(
+    alloc: Global,
+    page: &mut Page,
+    spec: &Spec,
+    analysis: &Analysis,
+) -> Result<(), AllocError>
+    ensures { OnOk result (page.new ≡ page.old ++ report_text spec.now analysis.now) }
+{
+    write_conflicts(alloc, page, spec, analysis.conflicts.as_slice())?;
+    write_unsafe_drops(alloc, page, spec, analysis.unsafe_drops.as_slice())?;
+    write_counts(page, analysis.conflicts.len(), analysis.unsafe_drops.len())
+}
+
 /// The report of an analysis of the specification: all conflicts, then all unsafe drops, then their numbers.
 pub fn report(alloc: Global, spec: &Spec, analysis: &Analysis) -> Result<Vec<u8>, AllocError>
     ensures { IfOk result (λ text. text.items ≡ report_text spec.now analysis.now) }
 {
     let mut page = Page::new(alloc);
-    write_conflicts(alloc, &mut page, spec, analysis.conflicts.as_slice())?;
-    write_unsafe_drops(alloc, &mut page, spec, analysis.unsafe_drops.as_slice())?;
-    write_counts(
-        &mut page,
-        analysis.conflicts.len(),
-        analysis.unsafe_drops.len(),
-    )?;
+    write_report(alloc, &mut page, spec, analysis)?;
     page.bytes().to_vec(alloc)
 }

@@ -1,4 +1,4 @@
-use Rattle.ipa.proofs.VerdictLemmas.{AreOne, one-verdict}
+use Rattle.ipa.proofs.VerdictLemmas.{AreOne, one-check}
 use Rattle.ipa.proofs.verdict_laws.one_verdict.Goals as goal
 
 pub returns : goal.returns
@@ -11,4 +11,4 @@ returns c =
       analysis = c.one_analysis.ensures.analysis;
       too_wide = c.one_refusal.ensures.too_wide;
     } in
-    one-verdict laws
+    λ bytes text other status end h k. one-check laws bytes status end text other h k
