@@ -2,3 +2,4 @@ pub mod ClosedLemmas
 pub mod StateLemmas
 pub mod DropLemmas
 pub mod ReasonLemmas
+mod ShownLemmas

@@ -6,6 +6,8 @@
 --   IsTop ms t                    t is a maximal effect
 --   Order ms                      before is transitive on the members, and none is before itself
 --   top_above                     each member that passes a test has one at or above it that is before no other
+--   top_test, test_top            the test of a maximal effect passes just these
+--   judge                         none touches the fact, or one wins, or none does
 --   value_won, won_value          the value is that of the rule exactly where a maximal effect is of its kind
 --   value-same                    lists with the same members give the same value
 --   value-untouched, value-plain  one more transaction that does not touch the fact, or that all others are before
@@ -172,12 +174,12 @@ module _ (before : Tx → Tx → Bool) (adds removes : Tx → Bool) (start : Boo
   touch_turns false t h = elim (or_cases (adds t) (removes t) h) [ inl a ↦ inr a | inr r ↦ inl r ]
 
   -- what a maximal effect passes
-  top_test : (ms : List Tx) (t : Tx) → IsLast before touch ms t → is_top before touch ms t ≡ true
+  pub top_test : (ms : List Tx) (t : Tx) → IsLast before touch ms t → is_top before touch ms t ≡ true
   top_test ms t l = and_from (touch t) (not (list_any (λ u. touch u && before t u) ms)) l.passes
       (not_from_false (list_any (λ u. touch u && before t u) ms) (none_from (λ u. touch u && before t u) ms
       (λ u mu h. let parts = and_parts (touch u) (before t u) h in l.none u mu parts.0 parts.1)))
 
-  test_top : (ms : List Tx) (t : Tx) → IsMember ms t → is_top before touch ms t ≡ true → IsLast before touch ms t
+  pub test_top : (ms : List Tx) (t : Tx) → IsMember ms t → is_top before touch ms t ≡ true → IsLast before touch ms t
   test_top ms t m h =
       let parts = and_parts (touch t) (not (list_any (λ u. touch u && before t u) ms)) h in
       let alone = not-true (list_any (λ u. touch u && before t u) ms) parts.1 in
@@ -236,8 +238,8 @@ module _ (before : Tx → Tx → Bool) (adds removes : Tx → Bool) (start : Boo
         ∙ ap (λ (b : Bool). cond b w (not w)) (false_from_ne_true (list_any (wins_in w ms) ms)
         (λ h. let f = winner_any ms h in r.none f.tx f.top f.wins)))
 
-    -- one of the three
-    judge : (ms : List Tx) → Untouched ms ⊎ (Winner ms ⊎ Lost ms)
+    -- none touches the fact, or one wins, or none does
+    pub judge : (ms : List Tx) → Untouched ms ⊎ (Winner ms ⊎ Lost ms)
     judge ms = elim (cases_Bool (list_any touch ms)) [
       | inr none ↦ inl (record { none = none_found touch ms none })
       | inl some ↦ elim (cases_Bool (list_any (wins_in w ms) ms)) [

@@ -1,6 +1,7 @@
 -- What follows for the members of a history.
 --
 --   covers_covered, covered_covers   the test and the fact that a cut covers a dot
+--   count_cons, count_push, count_grows   a count with one more in front, behind, and of a longer front
 --   not_itself                no transaction is before itself
 --   one_named                 two members with one dot are one
 --   positive                  no member has the number 0
@@ -10,7 +11,7 @@
 --   Order-part                before is an order on such a part
 --   closed_part               the members of a closed cut are one
 --   closed_own                the members that are in a transaction's own cut
-use Rattle.std.proofs.Common.{◌≡◌, ℕ, zero, suc, ◌+◌, ◌<◌, ◌≤◌, Bool, true, cond, List, [], ◌∷◌, sym, ◌∙◌, ap, subst, arith, Some, None, slice_get, take, inl, inr}
+use Rattle.std.proofs.Common.{◌≡◌, ℕ, zero, suc, ◌+◌, ◌<◌, ◌≤◌, Bool, true, cond, List, [], ◌∷◌, ◌++◌, sym, ◌∙◌, ap, subst, arith, Some, None, slice_get, take, inl, inr}
 use Rattle.std.specs.Prelude.{◌==◌}
 use Rattle.std.specs.List.{count_by}
 use Rattle.std.proofs.lemmas.List.Sums.{sum_by-cons}
@@ -45,6 +46,16 @@ member-take (suc k) (x ∷ xs) y m = by_place m.place m.at (λ r. member-take k 
 pub count_cons : {X : Type 0} (p : X → Bool) (x : X) (xs : List X) →
     count_by p (x ∷ xs) ≡ cond (p x) 1 0 + count_by p xs
 count_cons p x xs = sum_by-cons (λ y. cond (p y) 1 0) x xs
+
+-- one more behind a list counts where it passes
+pub count_push : {X : Type 0} (p : X → Bool) (xs : List X) (x : X) →
+    count_by p (xs ++ x ∷ []) ≡ count_by p xs + cond (p x) 1 0
+count_push p [] x = let one = count_cons p x [] in omega (arith, one)
+count_push p (y ∷ ys) x =
+    let rest = count_push p ys x in
+    let low = count_cons p y ys in
+    let high = count_cons p y (ys ++ x ∷ []) in
+    omega (arith, rest, low, high)
 
 -- a count of a front grows past an item that passes
 pub count_grows : {X : Type 0} (p : X → Bool) (xs : List X) (j k : ℕ) (x : X) → slice_get xs j ≡ Some x → p x ≡ true →

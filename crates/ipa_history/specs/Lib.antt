@@ -13,3 +13,4 @@ pub mod NextLaws
 pub mod PushLaws
 pub mod AgeLaws
 pub mod Closings
+pub mod Clocks

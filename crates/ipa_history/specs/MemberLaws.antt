@@ -8,6 +8,7 @@
 --   member-append_left .. member-append_cases   members of two lists together
 --   member-filter, filter_member   members of a filtered list
 --   length-filter_le, length-filter_less   a filter keeps fewer where a member fails it
+--   filter_all                     a filter that all members pass keeps all
 use Rattle.std.proofs.Common.{◌≡◌, ℕ, zero, suc, ◌<◌, ◌≤◌, Bool, true, false, cond, List, [], ◌∷◌, ◌++◌, length, refl, sym, ◌∙◌, ap, arith, Some, None, slice_get, ◌⊎◌, inl, inr}
 use Rattle.std.specs.Prelude.{filter}
 use Rattle.std.specs.List.{list_any}
@@ -157,3 +158,13 @@ pub length-filter_less : {X : Type 0} (p : X → Bool) (xs : List X) (y : X) →
 length-filter_less p [] y m h = absurd (member_none y m)
 length-filter_less p (x ∷ xs) y m h = less_step p x xs (filter p xs) y (p x) refl h (length-filter_le p xs)
     (λ r. length-filter_less p xs y r h) m
+
+-- a filter that all members pass keeps all
+pub filter_all : {X : Type 0} (p : X → Bool) (xs : List X) → ((x : X) → IsMember xs x → p x ≡ true) → filter p xs ≡ xs
+filter_all p [] all = refl
+filter_all p (x ∷ xs) all =
+    kept (p x) (all x (member_first x xs)) (filter_all p xs (λ y m. all y (member_later x xs y m)))
+  where
+    kept : (b : Bool) → b ≡ true → filter p xs ≡ xs → cond b (x ∷ filter p xs) (filter p xs) ≡ (x ∷ xs)
+    kept true h e = ap (λ (ys : List _). x ∷ ys) e
+    kept false h e = absurd (false≢true h)

@@ -22,15 +22,15 @@ pub(crate) fn age_of(spec: &Spec, members: &[Tx], fact: &Fact) -> Age
         )
 }
 
-// The greater of two ages.
-fn greater_age(one: Age, other: Age) -> Age
+/// The greater of two ages, by size and then by origin.
+pub fn greater_age(one: Age, other: Age) -> Age
     ensures { result ≡ greater_age one other }
 {
     if one.cmp(&other).is_lt() { other } else { one }
 }
 
-// The size of the transaction, one more than its cut has members, and its origin.
-fn age_of_tx(tx: &Tx) -> Age
+/// The age of a transaction: its size, one more than its cut has members, and its origin.
+pub fn age_of_tx(tx: &Tx) -> Age
     ensures { result ≡ age_of_tx tx.now }
 {
     Age {

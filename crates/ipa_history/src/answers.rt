@@ -10,7 +10,7 @@ use crate::legality::reason_against;
 use crate::reasons::Reason;
 use crate::states::state_at_plain;
 use ipa_clock::{Cut, Dot};
-use ipa_logic::{Fact, Request, State, Universe};
+use ipa_logic::{Fact, Request, State, Universe, View, true_facts};
 use ipa_spec::laws::spec_is_fit;
 use ipa_spec::{Action, Spec};
 use std::alloc::{AllocError, Global};
@@ -47,7 +47,7 @@ pub fn answer_plain(
         }
         Request::Show { predicate, places } => {
             let state = state_at_plain(alloc, spec, base, history, cut)?;
-            let shown = shown_of(alloc, &state, *predicate, places)?;
+            let shown = facts_shown(alloc, &state, *predicate, places)?;
             Ok(Answer::Shown(shown))
         }
     }
@@ -108,23 +108,23 @@ fn next_operation(
     }
 }
 
-// The facts of the state that match the places.
-fn shown_of(
+/// The true facts of the predicate that have the elements wanted in its places.
+pub fn facts_shown<V: View>(
     alloc: Global,
-    state: &State,
+    view: &V,
     predicate: u8,
     places: &[Option<u16>; 3],
 ) -> Result<State, AllocError>
-    ensures { IfOk result (IsStateOf (λ f. has state.now f && is_shown predicate places.now f)) }
+    ensures { IfOk result (IsStateOf (λ f. has (V.facts view.now) f && is_shown predicate places.now f)) }
 {
-    let facts = state.to_vec(alloc)?;
     let mut shown = State::new(alloc);
-    for fact in &facts {
-        insert_if_shown(&mut shown, predicate, places, fact)?;
+    for fact in true_facts(view, predicate) {
+        insert_if_shown(&mut shown, predicate, places, &fact)?;
     }
     Ok(shown)
 }
 
+// Inserts the fact if it is one of those.
 fn insert_if_shown(
     shown: &mut State,
     predicate: u8,

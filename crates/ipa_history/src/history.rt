@@ -1,5 +1,5 @@
 //! Transactions and histories.
-ghost use Rattle.std.specs.Prelude.{◌≡◌, [], ◌∷◌, ◌++◌, length, slice_get, OnOk, OnErr, MatchOption};
+ghost use Rattle.std.specs.Prelude.{◌≡◌, ◌+◌, ◌<◌, ◌≤◌, [], ◌∷◌, ◌++◌, length, slice_get, OnOk, OnErr, MatchOption, vec_len, vec_capacity};
 ghost use Rattle.std.specs.Option.{option_copied};
 ghost use Rattle.ipa_history.specs.Histories.{IsHistory, IsNamedIn, NoneNamedIn};
 
@@ -7,6 +7,7 @@ use ipa_clock::{Cut, Dot};
 use ipa_spec::Action;
 use std::alloc::{AllocError, Global};
 use std::marker::Model;
+use std::mem;
 
 /// A transaction: one action, made at a cut.
 #[derive(Clone, Copy, PartialEq, Eq)]
@@ -62,6 +63,34 @@ impl History {
         Ok(())
     }
 
+    /// Appends the transactions, all of them, or answers want of memory and leaves the history as it was.
+    pub fn extend(&mut self, more: &[Tx]) -> Result<(), AllocError>
+        requires { IsHistory (self.old ++ more.now) }
+        ensures ok { OnOk result (self.new ≡ self.old ++ more.now) }
+        ensures err { OnErr result (self.new ≡ self.old) }
+    {
+        self.items.extend_from_slice(more)?;
+        Ok(())
+    }
+
+    /// Appends the transaction and takes no memory: where the history has used up its own room, its transactions move
+    /// into `room`, which is empty and wide enough for all of them and one more. `room` is left empty.
+    pub fn push_within(&mut self, tx: Tx, room: &mut Vec<Tx>)
+        requires history { IsHistory (self.old ++ tx ∷ []) }
+        requires empty { room.old.items ≡ [] }
+        requires wide { length self.old < vec_capacity room.old }
+        ensures history { self.new ≡ self.old ++ tx ∷ [] }
+        ensures room { room.new.items ≡ [] }
+    {
+        if self.items.len() < self.items.capacity() {
+            put(&mut self.items, tx);
+        } else {
+            move_all(&mut self.items, room);
+            put(room, tx);
+            mem::swap(&mut self.items, room);
+        }
+    }
+
     /// The transaction at `place`, or `None` where the history ends before it.
     pub fn get(&self, place: u32) -> Option<&Tx>
         ensures { option_copied result ≡ slice_get self.now place }
@@ -89,5 +118,29 @@ impl History {
         ensures formed { IsHistory self.now }
     {
         self.items.as_slice()
+    }
+}
+
+// Appends to a list that has room.
+fn put(list: &mut Vec<Tx>, tx: Tx)
+    requires { vec_len list.old < vec_capacity list.old }
+    ensures items { list.new.items ≡ list.old.items ++ tx ∷ [] }
+{
+    if list.push(tx).is_err() {
+        return;
+    }
+}
+
+// Moves all items of one list into another, which is empty and has room for them.
+fn move_all(from: &mut Vec<Tx>, to: &mut Vec<Tx>)
+    requires empty { to.old.items ≡ [] }
+    requires wide { vec_len from.old ≤ vec_capacity to.old }
+    ensures items { to.new.items ≡ from.old.items }
+    ensures len { vec_len to.new ≡ vec_len from.old }
+    ensures capacity { vec_capacity to.old ≤ vec_capacity to.new }
+    ensures rest { from.new.items ≡ [] }
+{
+    if to.append(from).is_err() {
+        return;
     }
 }

@@ -28,7 +28,8 @@ mod reasons;
 mod states;
 mod values;
 
-pub use answers::{Answer, answer_plain};
+pub use ages::{age_of_tx, greater_age};
+pub use answers::{Answer, answer_plain, facts_shown};
 pub use history::{History, Tx};
 pub use legality::{LegalFault, legal_plain};
 pub use outcomes::{Fate, Outcome, SimEnd};
