@@ -1,0 +1,9 @@
+pub mod EffectLemmas
+pub mod FilingLemmas
+pub mod FillLemmas
+pub mod IndexLemmas
+pub mod ListingLemmas
+pub mod NumberLemmas
+pub mod PlaceLemmas
+pub mod RowLemmas
+pub mod TakingLemmas

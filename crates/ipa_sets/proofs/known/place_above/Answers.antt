@@ -1,0 +1,17 @@
+use Rattle.std.proofs.Common.{rules, arith}
+use Rattle.std.proofs.lemmas.List.Sorted.{IsPartitionPoint-from_clause}
+use Rattle.ipa_sets.specs.Places.{is_passed}
+use Rattle.ipa_sets.proofs.PlaceLemmas.{parted, passed-down}
+use Rattle.ipa_sets.proofs.known.place_above.Goals as goal
+
+pub returns : goal.returns
+returns c =
+    let point = IsPartitionPoint-from_clause (is_passed c.args.predicate c.args.after) c.args.facts.now c.partition_point.result
+    c.partition_point.ensures.partitioned
+    (parted (is_passed c.args.predicate c.args.after) (passed-down c.args.predicate c.args.after) c.args.facts.now c.requires)
+    (λ a r q k. search rules) in
+    record {
+      within = c.partition_point.ensures.bound;
+      before = λ k d l. point.0 k d (omega arith) l;
+      after = λ k d a l. point.1 k d a l;
+    }
