@@ -1,0 +1,6 @@
+use Rattle.ipa_history.specs.Histories.{IsMember}
+use Rattle.ipa_gate.proofs.WalkLemmas.{UpTo}
+use Rattle.ipa_gate.proofs.pulls.first_parted.Given as goal
+
+abbrev pub invariant-loop-tx : goal.invariant-loop-tx
+invariant-loop-tx l = UpTo (IsMember l.index.entries) l.tx-items l.tx-index

@@ -1,0 +1,11 @@
+pub mod Settings
+pub mod Shapes
+pub mod Logs
+pub mod DueDrops
+pub mod Cuts
+pub mod Keeping
+pub mod Verdicts
+pub mod Offers
+pub mod Agreements
+pub mod VerdictLaws
+pub mod LogLaws

@@ -1,0 +1,35 @@
+#![tactic(auto)]
+//! Logs: legal histories by their type, which take transactions one after the other.
+//!
+//! A `Setting` is an accepted specification with a universe, a base and a number of sessions. A `Log` of it is a
+//! legal history, whatever was offered to it: `offer` appends a transaction that is new and legal at its own cut, knows
+//! one that it has, and refuses every other, by the first `OfferFault` that holds. A transaction is judged at its own
+//! cut alone, so two logs may take the same transactions in different orders. `test` answers what `offer` would, and
+//! makes the log ready, so that the offer takes no memory. `agrees`, `news` and `beyond` tell what the log has that
+//! others lack. By `law_log_keeps` every closed cut of a log keeps all clauses.
+//!
+//! ```
+//! let mut log = Log::new(alloc, setting);
+//! match log.offer(tx) {
+//!     Ok(Taken::New) => ..,
+//!     Err(OfferFault::Gap { origin, have, need }) => ..,
+//! }
+//! ```
+
+mod answers;
+mod cuts;
+mod entries;
+mod laws;
+mod log;
+mod offers;
+mod pulls;
+mod setting;
+mod shapes;
+mod verdicts;
+
+pub use answers::{Diverged, OfferFault, PullFault, Taken};
+pub use laws::{law_drops_are_few, law_equal_cuts, law_log_keeps};
+pub use log::Log;
+pub use setting::Setting;
+pub use shapes::argument_count;
+pub use verdicts::reason_at;
