@@ -1,0 +1,5 @@
+mod AbsorbLemmas
+mod CutLemmas
+mod DueLemmas
+mod HoldingLemmas
+mod DecisionLemmas
