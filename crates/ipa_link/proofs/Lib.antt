@@ -1,0 +1,4 @@
+mod Steps
+mod Progress
+mod Stops
+mod Written

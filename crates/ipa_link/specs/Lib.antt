@@ -1,0 +1,4 @@
+pub mod Deliveries
+pub mod Pours
+pub mod Counting
+pub mod Laws
