@@ -1,0 +1,9 @@
+use Rattle.std.proofs.Common.{◌≡◌, ◌++◌, take}
+use Rattle.std.specs.List.{flat_map}
+use Rattle.ipa_journal.specs.Texts.{out_line_text}
+use Rattle.ipa_journal.proofs.writing.write_read_outcomes.Given as goal
+
+-- the outcomes so far are printed
+abbrev pub invariant-loop-line : goal.invariant-loop-line
+invariant-loop-line l =
+    l.page ≡ l.initial.page ++ flat_map (out_line_text l.spec l.elements l.origins) (take l.line-index l.outcomes)

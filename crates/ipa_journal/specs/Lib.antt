@@ -1,0 +1,9 @@
+pub mod Pieces
+pub mod Naming
+pub mod Texts
+pub mod Parts
+pub mod Unread
+pub mod Meaning
+pub mod Order
+pub mod Readings
+pub mod Starts
