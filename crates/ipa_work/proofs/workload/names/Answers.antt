@@ -1,0 +1,14 @@
+use Rattle.std.proofs.Common.{ℕ, ◌+◌, List, ◌++◌, ◌∙◌, ap}
+use Rattle.std.specs.Fmt.{decimal}
+use Rattle.std.proofs.lemmas.List.{append_assoc}
+use Rattle.ipa_work.proofs.CountLemmas.{none, more}
+use Rattle.ipa_work.proofs.workload.names.Goals as goal
+
+pub loop-k-init : goal.loop-k-init
+loop-k-init c = none c.args.page.now (λ k. c.args.letter.now ++ decimal k)
+
+pub loop-k-preserved : goal.loop-k-preserved
+loop-k-preserved c =
+    c.in_ok-number.ensures.ok ∙ (ap (λ (page : List ℕ). page ++ decimal (c.loop-k.k + 1)) c.in_ok-text.ensures.ok
+    ∙ (append_assoc c.loop-k.page c.args.letter.now (decimal (c.loop-k.k + 1))
+    ∙ more c.args.page.now c.loop-k.page c.loop-k.k (λ k. c.args.letter.now ++ decimal k) c.loop-k.invariant))

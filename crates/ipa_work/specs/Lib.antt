@@ -1,0 +1,2 @@
+pub mod Tournament
+pub mod Workloads
