@@ -61,7 +61,7 @@ IsLearned-cut cs old now new learned d rest l decided alone v e =
       new = subst (λ (n : ℕ). EachStep (IsNew n) new.steps) (sym v) (EachStep-prefix (IsNew now.vars) new.steps (d ∷ rest) each);
     }
 
-drop_get : (t : List Taken) (k : ℕ) (s : Taken) → slice_get t k ≡ Some s → drop k t ≡ s ∷ drop (suc k) t
+pub drop_get : {X : Type 0} → (t : List X) (k : ℕ) (s : X) → slice_get t k ≡ Some s → drop k t ≡ s ∷ drop (suc k) t
 drop_get [] k s h = let none : ⊥ = cc in absurd none
 drop_get (x ∷ t) zero s h = let e : x ≡ s = cc in ap (λ y. y ∷ t) e
 drop_get (x ∷ t) (suc k) s h = drop_get t k s h

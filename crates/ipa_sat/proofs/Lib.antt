@@ -2,6 +2,7 @@ pub mod Checked
 pub mod Explained
 pub mod Finishing
 pub mod Grown
+pub mod Growth
 pub mod Jumping
 pub mod Learned
 pub mod Literals

@@ -1,11 +1,12 @@
 //! The answers of the search: the first satisfying assignment, any one, or one that shows itself.
 
-ghost use Rattle.std.specs.Prelude.{◌≡◌, ◌≤◌, ◌++◌, [], ◌∷◌, IfOk, IfSome, IfNone, length, drop};
+ghost use Rattle.std.specs.Prelude.{◌≡◌, ◌++◌, [], ◌∷◌, IfOk, IfSome, IfNone, drop};
 ghost use Rattle.ipa_sat.specs.Formula.{IsInRange, IsLeast, IsUnsatisfiable, Satisfies};
 ghost use Rattle.ipa_sat.specs.Refutation.{clauses_of};
 ghost use Rattle.ipa_sat.specs.Answers.{IsAnswer};
 
 use crate::cnf::{Cnf, Lit};
+use crate::growing::Growing;
 use crate::list::List;
 use crate::refutation::{Solved, Step};
 use crate::search::search_anew;
@@ -17,7 +18,7 @@ pub fn least(alloc: Global, cnf: &Cnf) -> Result<Option<Vec<bool>>, AllocError>
     ensures found { IfOk result (λ answer. IfSome answer (λ a. IsLeast cnf.now a.items)) }
     ensures none { IfOk result (λ answer. IfNone answer (IsUnsatisfiable cnf.now)) }
 {
-    let mut grown = cnf.copy()?;
+    let mut grown = Growing::new(alloc, cnf);
     search_anew(alloc, &mut grown)
 }
 
@@ -39,15 +40,16 @@ fn step_of(alloc: Global, clause: &[Lit]) -> Result<Step, AllocError>
 }
 
 /// The steps that are the clauses of a formula from a place on, and at the end the empty one.
-fn steps_from(alloc: Global, cnf: &Cnf, from: usize) -> Result<List<Step>, AllocError>
-    requires { from ≤ length cnf.now.clauses }
+fn steps_from(alloc: Global, cnf: &Growing<'_>, from: usize) -> Result<List<Step>, AllocError>
     ensures clauses { IfOk result (λ steps. clauses_of steps ≡ drop from cnf.now.clauses ++ [] ∷ []) }
     ensures range { IfOk result (λ steps. IsInRange cnf.now.vars (clauses_of steps)) }
 {
     let mut steps = List::new(alloc);
-    let clauses = &cnf.clauses()[from..];
-    for clause in clauses {
-        steps.push(step_of(alloc, clause.as_slice())?)?;
+    for place in from..cnf.len() {
+        let Some(clause) = cnf.clause(place) else {
+            unreachable!();
+        };
+        steps.push(step_of(alloc, clause)?)?;
     }
     steps.push(step_of(alloc, &[])?)?;
     Ok(steps)
@@ -57,7 +59,7 @@ fn steps_from(alloc: Global, cnf: &Cnf, from: usize) -> Result<List<Step>, Alloc
 pub fn solve_shown(alloc: Global, cnf: &Cnf) -> Result<Solved, AllocError>
     ensures { IfOk result (IsAnswer cnf.now) }
 {
-    let mut grown = cnf.copy()?;
+    let mut grown = Growing::new(alloc, cnf);
     match search_anew(alloc, &mut grown)? {
         Some(values) => Ok(Solved::Model(values)),
         None => Ok(Solved::Refuted(steps_from(alloc, &grown, cnf.len())?)),

@@ -6,7 +6,8 @@ ghost use Rattle.ipa_sat.specs.Trail.{EachStep};
 ghost use Rattle.ipa_sat.specs.Looking.{are_false};
 ghost use Rattle.ipa_sat.specs.Explaining.{HasReason, Gathers, Resolves, IsLearned, IsFree, Jumps};
 
-use crate::cnf::{Cnf, Lit};
+use crate::cnf::Lit;
+use crate::growing::Growing;
 use crate::trail::Trail;
 use std::alloc::{AllocError, Global};
 
@@ -55,11 +56,11 @@ fn push_but(into: &mut Vec<Lit>, lit: Lit, but: Lit) -> Result<(), AllocError>
     Ok(())
 }
 
-/// The literals of a clause but one.
-fn without(alloc: Global, clause: &[Lit], but: Lit) -> Result<Vec<Lit>, AllocError>
+/// The literals of a clause but one, with room for so many more.
+fn without(alloc: Global, clause: &[Lit], but: Lit, more: usize) -> Result<Vec<Lit>, AllocError>
     ensures { IfOk result (λ new. Gathers clause.now but [] new.items) }
 {
-    let mut new = Vec::with_capacity(alloc, clause.len())?;
+    let mut new = Vec::with_capacity(alloc, clause.len().saturating_add(more))?;
     for lit in clause {
         push_but(&mut new, *lit, but)?;
     }
@@ -70,7 +71,7 @@ fn without(alloc: Global, clause: &[Lit], but: Lit) -> Result<Vec<Lit>, AllocErr
 fn resolve(alloc: Global, clause: &[Lit], reason: &[Lit], lit: Lit) -> Result<Vec<Lit>, AllocError>
     ensures { IfOk result (λ new. Resolves clause.now reason.now lit new.items) }
 {
-    let mut new = without(alloc, clause, lit.opposite())?;
+    let mut new = without(alloc, clause, lit.opposite(), reason.len())?;
     gather(&mut new, reason, lit)?;
     Ok(new)
 }
@@ -78,7 +79,7 @@ fn resolve(alloc: Global, clause: &[Lit], reason: &[Lit], lit: Lit) -> Result<Ve
 /// Takes steps back until a decision is refuted, and learns a clause that says so.
 pub(crate) fn explain(
     alloc: Global,
-    cnf: &Cnf,
+    cnf: &Growing<'_>,
     trail: &mut Trail,
     broken: Vec<Lit>,
 ) -> Result<Option<Learned>, AllocError>

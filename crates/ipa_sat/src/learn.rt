@@ -6,8 +6,9 @@ ghost use Rattle.ipa_sat.specs.Refutation.{has, FollowsByUnits};
 ghost use Rattle.ipa_sat.specs.Search.{IsReasoned, IsBrokenAt};
 ghost use Rattle.ipa_sat.specs.Learning.{Learns};
 
-use crate::cnf::{Cnf, Lit};
+use crate::cnf::Lit;
 use crate::explain::{Learned, contains, explain, jump};
+use crate::growing::Growing;
 use crate::look::Pair;
 use crate::trail::{Taken, Trail};
 use crate::watches::Watches;
@@ -49,7 +50,7 @@ const SHORT: usize = 5;
 
 /// Takes the watches from a long clause that was learned long ago: looking after it would cost more
 /// than it tells.
-fn forget_one(cnf: &Cnf, watches: &mut Watches) {
+fn forget_one(cnf: &Growing<'_>, watches: &mut Watches) {
     let Some(place) = cnf.len().checked_sub(RECENT) else {
         return;
     };
@@ -62,7 +63,7 @@ fn forget_one(cnf: &Cnf, watches: &mut Watches) {
 /// literal. Answers false where the formula is refuted.
 pub(crate) fn learn(
     alloc: Global,
-    cnf: &mut Cnf,
+    cnf: &mut Growing<'_>,
     trail: &mut Trail,
     watches: &mut Watches,
     place: usize,

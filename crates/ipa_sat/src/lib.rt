@@ -17,11 +17,13 @@
 //! [`solve_shown`] answers an assignment, or a refutation where there is none: a list of clauses
 //! ([`Step`]), each of which follows by unit propagation from the formula and the earlier ones, and
 //! the last of which is empty. [`check_steps`] tells whether a list is a refutation, and [`is_satisfied`]
-//! whether an assignment satisfies a formula.
+//! whether an assignment satisfies a formula. What has a refutation is satisfied by no assignment
+//! ([`laws::refutations_are_sound`]).
 //!
 //! Inside, `trail` holds the literals that are taken to be true, `look` and `visit` read one clause
 //! under them, `watches` says which clauses to look at after a step, `propagate` takes what
-//! follows, `explain` and `learn` make a clause of each conflict, and `search` decides;
+//! follows, `explain` and `learn` make a clause of each conflict, `growing` keeps them behind the
+//! given ones, and `search` decides;
 //! `assignment` looks at a finished assignment. `check` stands on `trail` and `look` alone.
 #![tactic(auto)]
 
@@ -30,6 +32,8 @@ mod assignment;
 mod check;
 mod cnf;
 mod explain;
+mod growing;
+pub mod laws;
 mod learn;
 mod list;
 mod look;

@@ -17,8 +17,8 @@ ghost use Rattle.ipa_sat.specs.Search.{IsReasoned, IsBrokenAt};
 ghost use Rattle.ipa_sat.specs.Learning.{IsRefutedBy};
 ghost use Rattle.ipa_sat.specs.Turns.{IsPosition, IsFirstOpen, AreKnown, Turns};
 
-use crate::assignment::first_false;
-use crate::cnf::{Cnf, Lit};
+use crate::cnf::Lit;
+use crate::growing::Growing;
 use crate::learn::learn;
 use crate::propagate::{propagate, start};
 use crate::trail::{Taken, Trail};
@@ -39,7 +39,7 @@ enum Turn {
 /// Learns from a false clause, given by its place.
 fn turn_round(
     alloc: Global,
-    cnf: &mut Cnf,
+    cnf: &mut Growing<'_>,
     trail: &mut Trail,
     watches: &mut Watches,
     place: usize,
@@ -73,7 +73,7 @@ fn first_open(trail: &Trail, from: u32, end: u32) -> Option<u32>
 /// Reads the assignment off a trail that has a value for each variable.
 fn finish(
     alloc: Global,
-    cnf: &mut Cnf,
+    cnf: &mut Growing<'_>,
     trail: &mut Trail,
     watches: &mut Watches,
 ) -> Result<Turn, AllocError>
@@ -82,7 +82,7 @@ fn finish(
     ensures { IfOk result (Turns cnf.old cnf.new trail.old trail.new) }
 {
     let values = trail.read(alloc)?;
-    match first_false(cnf, values.as_slice()) {
+    match cnf.first_false(values.as_slice()) {
         None => Ok(Turn::Found(values)),
         Some(place) => turn_round(alloc, cnf, trail, watches, place),
     }
@@ -108,7 +108,7 @@ fn deny(trail: &mut Trail, var: u32) -> Result<(), AllocError>
 /// Decides the first open variable, or finishes where there is none.
 fn decide(
     alloc: Global,
-    cnf: &mut Cnf,
+    cnf: &mut Growing<'_>,
     trail: &mut Trail,
     watches: &mut Watches,
     at: u32,
@@ -129,7 +129,7 @@ fn decide(
 /// One turn of the search: propagates, and then learns, decides or finishes.
 fn turn_once(
     alloc: Global,
-    cnf: &mut Cnf,
+    cnf: &mut Growing<'_>,
     trail: &mut Trail,
     watches: &mut Watches,
     at: u32,
@@ -149,7 +149,7 @@ fn turn_once(
 /// grows by what is learned.
 fn search(
     alloc: Global,
-    cnf: &mut Cnf,
+    cnf: &mut Growing<'_>,
     trail: &mut Trail,
     watches: &mut Watches,
 ) -> Result<Option<Vec<bool>>, AllocError>
@@ -170,7 +170,7 @@ fn search(
 /// The first satisfying assignment of a formula from a trail on under which a clause is false.
 fn search_after(
     alloc: Global,
-    cnf: &mut Cnf,
+    cnf: &mut Growing<'_>,
     trail: &mut Trail,
     watches: &mut Watches,
     place: usize,
@@ -190,7 +190,7 @@ fn search_after(
 /// The first satisfying assignment of a formula, from a trail without steps and without watches.
 fn search_with(
     alloc: Global,
-    cnf: &mut Cnf,
+    cnf: &mut Growing<'_>,
     trail: &mut Trail,
     watches: &mut Watches,
 ) -> Result<Option<Vec<bool>>, AllocError>
@@ -206,7 +206,10 @@ fn search_with(
 
 /// The first satisfying assignment of a formula. Where there is none, the formula has grown by
 /// clauses that show it.
-pub(crate) fn search_anew(alloc: Global, cnf: &mut Cnf) -> Result<Option<Vec<bool>>, AllocError>
+pub(crate) fn search_anew(
+    alloc: Global,
+    cnf: &mut Growing<'_>,
+) -> Result<Option<Vec<bool>>, AllocError>
     ensures found { IfOk result (λ answer. IfSome answer (λ a. IsLeast cnf.old a.items)) }
     ensures none { IfOk result (λ answer. IfNone answer (IsRefutedBy cnf.old cnf.new)) }
 {

@@ -3,7 +3,7 @@
 ghost use Rattle.std.specs.Prelude.{IfOk, OnOk, IfSome};
 ghost use Rattle.ipa_sat.specs.Search.{IsReasoned, Follows, VisitTells};
 
-use crate::cnf::Cnf;
+use crate::growing::Growing;
 use crate::look::{Hint, Status, look};
 use crate::trail::{Taken, Trail};
 use std::alloc::AllocError;
@@ -21,7 +21,7 @@ pub(crate) enum Visit {
 
 /// Looks at a clause, by its place from 0, and takes the literal that it forces.
 pub(crate) fn visit_clause(
-    cnf: &Cnf,
+    cnf: &Growing<'_>,
     trail: &mut Trail,
     place: usize,
 ) -> Result<Option<Visit>, AllocError>

@@ -5,4 +5,4 @@ use Rattle.ipa_sat.proofs.answer.least.Goals as goal
 
 pub returns-clause-none : goal.returns-clause-none
 returns-clause-none c = IfOk-weaker _ _ _
-    (λ answer r. IfNone-refuted c.args.cnf.now c.in_ok-grown.grown c.search_anew.new.cnf c.in_ok-grown.ensures answer r) c.search_anew.ensures.none
+    (λ answer r. IfNone-refuted c.args.cnf.now c.new-grown.result c.search_anew.new.cnf c.new-grown.ensures answer r) c.search_anew.ensures.none
