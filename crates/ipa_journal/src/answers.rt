@@ -21,11 +21,13 @@ use std::alloc::{AllocError, Global};
 
 /// What stands before the result of an outcome.
 #[derive(Clone, Copy)]
-pub(crate) struct OutHead {
-    pub(crate) session: u8,
+pub struct OutHead {
+    /// The number of the session, from 0.
+    pub session: u8,
     /// The place of the request among those of its session, from 0.
-    pub(crate) place: u32,
-    pub(crate) cut: Cut,
+    pub place: u32,
+    /// What the session had seen.
+    pub cut: Cut,
 }
 
 fn bound_at(spec: &Spec, parts: &[Part]) -> Option<u8>

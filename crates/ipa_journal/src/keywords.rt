@@ -4,7 +4,7 @@ ghost use Rattle.ipa_journal.specs.Pieces.{keyword_text};
 
 /// A word that journals are written with.
 #[derive(Clone, Copy)]
-pub(crate) enum Keyword {
+pub enum Keyword {
     Journal,
     Sessions,
     Bounds,

@@ -29,8 +29,14 @@ mod starts;
 mod transactions;
 mod writing;
 
+pub use answers::OutHead;
 pub use journal::{Journal, JournalFault, OutLine, TxLine};
 pub use journal_laws::one_journal;
+pub use keywords::Keyword;
+pub use parts::Part;
+pub use pieces::Piece;
 pub use reading::read_journal;
+pub use standing::{Place, Standing, Version};
 pub use starts::{JournalStart, journal_start};
+pub use transactions::Done;
 pub use writing::{write_content, write_journal};

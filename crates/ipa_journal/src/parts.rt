@@ -18,7 +18,7 @@ use std::alloc::{AllocError, Global};
 
 /// A part of a line.
 #[derive(Drop)]
-pub(crate) enum Part {
+pub enum Part {
     /// A name: a word of journals, or one that the document declares.
     Word(Name),
     /// A decimal number.

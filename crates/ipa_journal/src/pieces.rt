@@ -10,7 +10,7 @@ use std::alloc::AllocError;
 
 /// A piece of a line.
 #[derive(Drop)]
-pub(crate) enum Piece {
+pub enum Piece {
     /// A word of journals.
     Key(Keyword),
     /// A declared name.

@@ -9,14 +9,14 @@ use std::alloc::Global;
 
 /// The version of a journal.
 #[derive(Clone, Copy)]
-pub(crate) enum Version {
+pub enum Version {
     One,
     Two,
 }
 
 /// Where the next line stands.
 #[derive(Clone, Copy)]
-pub(crate) enum Place {
+pub enum Place {
     /// It is to be `journal`.
     Head,
     /// It is to be `sessions`.
@@ -35,13 +35,17 @@ pub(crate) enum Place {
 
 /// What is read so far.
 #[derive(Drop)]
-pub(crate) struct Standing {
-    pub(crate) place: Place,
-    pub(crate) transactions: List<TxLine>,
-    pub(crate) outcomes: List<OutLine>,
-    pub(crate) last: State,
+pub struct Standing {
+    /// Where the next line stands.
+    pub place: Place,
+    /// The transactions, in the order of their lines.
+    pub transactions: List<TxLine>,
+    /// What the requests were answered, in the order of their lines.
+    pub outcomes: List<OutLine>,
+    /// The final facts.
+    pub last: State,
     /// The number of the line of the final facts, and 0 before it.
-    pub(crate) last_line: u32,
+    pub last_line: u32,
 }
 
 /// Nothing is read.

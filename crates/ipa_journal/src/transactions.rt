@@ -14,12 +14,13 @@ use ipa_spec::{Action, Name, Spec};
 
 /// An action with its arguments.
 #[derive(Clone, Copy)]
-pub(crate) struct Done {
-    pub(crate) action: Action,
+pub struct Done {
+    /// What is done.
+    pub action: Action,
     /// The arguments, and 0 past them.
-    pub(crate) args: [u16; 4],
+    pub args: [u16; 4],
     /// How many arguments there are.
-    pub(crate) count: u8,
+    pub count: u8,
 }
 
 fn origin_of(sessions: usize, number: u32) -> Option<u8>
