@@ -1,0 +1,11 @@
+pub mod PlaceLemmas
+pub mod ReasonLemmas
+pub mod CutLemmas
+pub mod FinalLemmas
+pub mod OutcomeLemmas
+pub mod OrderLemmas
+pub mod GoodLemmas
+pub mod LawfulLemmas
+pub mod CommitLemmas
+pub mod EntryLemmas
+pub mod VerdictLemmas

@@ -1,0 +1,9 @@
+pub mod Journals
+pub mod Order
+pub mod BadLines
+pub mod GoodLines
+pub mod Steps
+pub mod Commits
+pub mod Finals
+pub mod Operations
+pub mod Verdicts

@@ -1,0 +1,80 @@
+//! The transactions of a journal: each is offered to a log of those before it.
+ghost use Rattle.std.specs.Prelude.{◌≡◌, [], ◌∷◌, ◌++◌, IfOk, OnOk, MatchOption};
+ghost use Rattle.ipa_history.specs.Histories.{IsHistory};
+ghost use Rattle.ipa_sets.specs.Indexes.{IsIndexOf};
+ghost use Rattle.ipa_gate.specs.Logs.{IsLog};
+ghost use Rattle.ipa_gate.specs.Offers.{IsAdmitted};
+ghost use Rattle.ipa_audit.specs.Journals.{txs_of};
+ghost use Rattle.ipa_audit.specs.BadLines.{IsTxFault, AreTaken, IsFirstBadTx};
+ghost use Rattle.ipa_audit.specs.Steps.{IsAppended, AreAppended};
+
+use crate::verdict::AuditFault;
+use ipa_gate::{Log, OfferFault, Taken};
+use ipa_history::Tx;
+use ipa_journal::TxLine;
+use ipa_sets::Index;
+use ipa_spec::Spec;
+use std::alloc::{AllocError, Global};
+
+/// A bad line, by its number, and why it is bad.
+#[derive(Clone, Copy)]
+pub(crate) struct BadLine {
+    pub(crate) line: u32,
+    pub(crate) fault: AuditFault,
+}
+
+// Offers each transaction to the log, which has no entry, until one is not taken as new. That is the bad line.
+pub(crate) fn take_all(log: &mut Log, lines: &[TxLine]) -> Result<Option<BadLine>, AllocError>
+    requires { log.old.entries ≡ [] }
+    ensures bad { IfOk result (λ bad. MatchOption bad (AreAppended log.old.setting lines.now log.new.entries)
+        (λ b. IsFirstBadTx log.old.setting lines.now b.line b.fault)) }
+    ensures setting { log.new.setting ≡ log.old.setting }
+{
+    for entry in lines {
+        if let Some(fault) = take(log, entry.tx)? {
+            return Ok(Some(BadLine {
+                line: entry.line,
+                fault,
+            }));
+        }
+    }
+    Ok(None)
+}
+
+// Offers the transaction to the log. Answers why it is not taken as new, if it is not.
+fn take(log: &mut Log, tx: Tx) -> Result<Option<AuditFault>, AllocError>
+    ensures fault { IfOk result (λ fault. MatchOption fault
+        (IsAppended log.old.setting log.old.entries tx log.new.entries)
+        (IsTxFault log.old.setting log.old.entries tx)) }
+    ensures setting { log.new.setting ≡ log.old.setting }
+{
+    match log.offer(tx) {
+        Ok(Taken::New) => Ok(None),
+        Ok(Taken::Known) => Ok(Some(AuditFault::Repeated)),
+        Err(OfferFault::NoMemory) => Err(AllocError),
+        Err(fault) => Ok(Some(AuditFault::Offer(fault))),
+    }
+}
+
+// The index of the log's entries.
+pub(crate) fn index_of(alloc: Global, log: &Log) -> Result<Index, AllocError>
+    ensures indexed { IfOk result (λ index. IsIndexOf log.now.setting.spec index) }
+    ensures entries { IfOk result (λ index. index.entries ≡ log.now.entries) }
+{
+    let entries = log.entries().as_slice();
+    let index = index_entries(alloc, log.setting().accepted().spec(), entries)?;
+    Ok(index)
+}
+
+// The index of the entries of a history.
+fn index_entries(alloc: Global, spec: &Spec, entries: &[Tx]) -> Result<Index, AllocError>
+    requires { IsHistory entries.now }
+    ensures indexed { IfOk result (IsIndexOf spec.now) }
+    ensures entries { IfOk result (λ index. index.entries ≡ entries.now) }
+{
+    let mut index = Index::new(alloc);
+    for tx in entries {
+        index.take(spec, tx)?;
+    }
+    Ok(index)
+}
