@@ -1,0 +1,7 @@
+pub mod EndLemmas
+pub mod GiveLemmas
+pub mod ReceiveLemmas
+pub mod SeatLemmas
+pub mod StandingLemmas
+pub mod StartLemmas
+pub mod StepLemmas
