@@ -1,0 +1,14 @@
+pub mod Places
+pub mod Later
+pub mod Listed
+pub mod Parts
+pub mod Spreading
+pub mod Resting
+pub mod Rounds
+pub mod Ending
+pub mod Ways
+pub mod Dropping
+pub mod Giving
+pub mod Receiving
+pub mod Gone
+pub mod Passing
