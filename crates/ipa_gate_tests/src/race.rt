@@ -93,10 +93,7 @@ fn spec_of(alloc: Global) -> Result<Spec, Fail>
 }
 
 /// The setting of the race: three players and one cup, and this many sessions.
-pub(crate) fn setting_of<R: AllocGlobal + Threads + Sync>(
-    rt: &R,
-    sessions: u8,
-) -> Result<Setting, Fail>
+pub fn setting_of<R: AllocGlobal + Threads + Sync>(rt: &R, sessions: u8) -> Result<Setting, Fail>
     requires { sessions ≤ 16 }
 {
     let alloc = rt.alloc();
