@@ -1,9 +1,9 @@
 -- Lines that are not refused, one after the other.
 --
---   stand operation bound d   what stands before a line where d is declared and nothing is arranged: behind an operation or not, and behind a bound or not
+--   stand operation bound d a   what stands before a line where d is declared and a is arranged, before any setup line: behind an operation or not, and behind a bound or not
 --   no_refusal                a specification line that has no flaw, passes no limit and is in order is not refused
 --   Chain s lines             none of the lines is refused, where s stands before the first
---   Onward d lines            so it is where d is declared, behind whichever line
+--   Onward d lines            so it is where d is declared, behind whichever line and whatever is arranged
 --   accepted_all              so none of the lines of a text is refused
 --   each_line, each_chunk     the lines of the parts of one kind
 use Rattle.std.proofs.Common.{◌≡◌, Bool, false, List, [], ◌∷◌, ◌++◌, map, Option, None, refl, sym, subst, ◌∙◌, append_assoc, append-nil}
@@ -25,6 +25,7 @@ use Rattle.ipa_names.specs.declared.flaws.Flaw.{Flaw}
 use Rattle.ipa_names.specs.declared.flaws.Flaw.TheVariants.{Arity, SortMismatch, UnknownName, Duplicate, WildAdd, FreeVariable}
 use Rattle.ipa_names.specs.declared.declared.Declared.{Declared}
 use Rattle.ipa_reader.specs.declared.order.Place.{Place}
+use Rattle.ipa_reader.specs.declared.standing.Arranged.{Arranged}
 use Rattle.ipa_reader.specs.declared.standing.Standing.{Standing}
 use Rattle.ipa_reader.specs.declared.refusals.DocKind.{DocKind}
 use Rattle.ipa_reader.specs.declared.refusals.DocKind.TheVariants as kind
@@ -34,8 +35,8 @@ use Rattle.ipa_reader.specs.StandingLaws.{standing_of-push, accepted_push}
 abbrev pub place : Bool → Bool → Place
 place operation bound = record { after_setup = false; after_operation = operation; after_bound = bound; after_replicas = false; after_session = false }
 
-abbrev pub stand : Bool → Bool → Declared → Standing
-stand operation bound d = record { place = place operation bound; declared = d; arranged = nothing_arranged }
+abbrev pub stand : Bool → Bool → Declared → Arranged → Standing
+stand operation bound d a = record { place = place operation bound; declared = d; arranged = a }
 
 pub record IsUnrefused (s : Standing) (line : Form) : Type 0 where
   pub none : refusal_at s line ≡ None
@@ -75,7 +76,7 @@ Chain s [] = Unit {0}
 Chain s (line ∷ lines) = IsUnrefused s line × Chain (next_standing s line) lines
 
 abbrev pub Onward : Declared → List Form → Type 0
-Onward d lines = (operation bound : Bool) → Chain (stand operation bound d) lines
+Onward d lines = (operation bound : Bool) (a : Arranged) → Chain (stand operation bound d a) lines
 
 accepted_chain : (before lines : List Form) → AreAccepted before → Chain (standing_of before) lines → AreAccepted (before ++ lines)
 accepted_chain before [] h c = subst AreAccepted (sym (append-nil before)) h
@@ -84,7 +85,7 @@ accepted_chain before (line ∷ lines) h c =
     subst AreAccepted (append_assoc before (line ∷ []) lines) (accepted_chain (before ++ line ∷ []) lines (accepted_push before line h c.0.none) next)
 
 pub accepted_all : (lines : List Form) → Onward nothing_declared lines → AreAccepted lines
-accepted_all lines c = accepted_chain [] lines (record { each = λ k form e. cc }) (c false false)
+accepted_all lines c = accepted_chain [] lines (record { each = λ k form e. cc }) (c false false nothing_arranged)
 
 -- Go done lines: the lines go on where these parts are done
 module _ {X : Type 0} (Go : List X → List Form → Type 0) (all : List X) where

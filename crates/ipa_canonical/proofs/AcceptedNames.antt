@@ -2,33 +2,42 @@
 --
 --   name_new         a part has the name of none before it
 --   sort_known       the name of a declared sort
+--   sort_named       two sorts have the same name exactly where they are the same
 --   variables_clean  variables whose sorts are declared, none with another's name
 --   Knows sorts scope names nums   the variables of a scope have the names, and the sorts of these numbers
 --   knows_vars       so do the variables of a clause or an operation
 --   knows_places     and those of a bound
-use Rattle.std.proofs.Common.{◌≡◌, ℕ, zero, suc, ◌<◌, Bool, true, false, not, List, [], ◌∷◌, ◌++◌, length, map, Option, Some, refl, sym, ap, subst, ◌∙◌, arith}
-use Rattle.std.specs.List.{slice_get, slice_index_or, list_any, zip}
+--   knows_more       and so they do where more stands behind
+--   KnowsConstants s scope names   a scope gives each constant that no variable hides its sort
+--   knows_constants  so does one that ends with the constants
+use Rattle.std.proofs.Common.{◌≡◌, ℕ, zero, suc, ◌<◌, Bool, true, false, cond, not, List, [], ◌∷◌, ◌++◌, length, map, ◌==◌, Option, Some, None, refl, sym, ap, subst, ◌∙◌, arith}
+use Rattle.std.specs.List.{slice_get, slice_index_or, list_any, find, zip}
 use Rattle.std.specs.Option.{option_map, option_map_or, is_none}
-use Rattle.std.proofs.lemmas.Bool.{or_from, or_parts, or_left, or_right, eq-eqb}
+use Rattle.std.proofs.lemmas.Bool.{or_from, or_parts, or_left, or_right, eq-eqb, eqb-true, false≢true}
 use Rattle.std.proofs.lemmas.List.Folds.{list_any-append}
 use Rattle.std.proofs.lemmas.Option.{same_Some, get_or_from_slice_get, slice_get_within}
 use Rattle.ipa_spec.specs.Actions.{sorts_of_vars}
+use Rattle.ipa_spec.specs.Constants.{sort_of_constant}
+use Rattle.ipa_spec.specs.declared.constants.Constant.{Constant}
+use Rattle.ipa_spec.specs.declared.specification.Specification.{Specification}
 use Rattle.ipa_spec.specs.Faults.{same_name, has_repeat}
 use Rattle.ipa_spec.specs.FoundLaws.{map_at, none_of}
 use Rattle.ipa_spec.specs.declared.names.Name.{Name}
 use Rattle.ipa_spec.specs.declared.predicates.Var.{Var}
 use Rattle.ipa_forms.specs.declared.forms.Typed.{Typed}
-use Rattle.ipa_canonical.specs.Canonical.{typed_form, names_of}
+use Rattle.ipa_canonical.specs.Canonical.{constant_name, typed_form, names_of}
+use Rattle.ipa_canonical.specs.Named.{constant_line}
+use Rattle.ipa_canonical.specs.Hidden.{IsSaidByName}
 use Rattle.ipa_names.specs.Naming.{is_among}
 use Rattle.ipa_names.specs.Scopes.{sort_of_variable, typed_by_places}
 use Rattle.ipa_names.specs.Flaws.{use_has, declaration_has, sort_has, list_has, variables_have, place_has, variable_has, comparison_has, counted_has}
 use Rattle.ipa_names.specs.declared.flaws.Flaw.{Flaw}
 use Rattle.ipa_names.specs.declared.flaws.Flaw.TheVariants.{Arity, SortMismatch, UnknownName, Duplicate, WildAdd, FreeVariable}
 use Rattle.ipa_names.specs.declared.declared.Declared.{Declared}
-use Rattle.ipa_canonical.proofs.Numbers.{find_back, found_at, typed_names}
-use Rattle.ipa_names.specs.ListLaws.{any-map}
+use Rattle.ipa_canonical.proofs.Numbers.{number_back, find_back, found_at, typed_names}
+use Rattle.ipa_names.specs.ListLaws.{any-map, found_first}
 use Rattle.ipa_spec.specs.NameLaws.{same_name-refl}
-use Rattle.ipa_names.specs.NumberLaws.{repeat-map, slice_get-mapped}
+use Rattle.ipa_names.specs.NumberLaws.{repeat-map, slice_get-mapped, number_same}
 
 pub none_zipped : {X Y : Type 0} (test : X × Y → Bool) (xs : List X) (ys : List Y) → ((n : ℕ) (x : X) (y : Y) → slice_get xs n ≡ Some x → slice_get ys n ≡ Some y → test (x, y) ≡ false) → list_any test (zip xs ys) ≡ false
 none_zipped test [] ys h = refl
@@ -74,6 +83,29 @@ sort_known SortMismatch d k own l = refl
 sort_known Duplicate d k own l = refl
 sort_known WildAdd d k own l = refl
 sort_known FreeVariable d k own l = refl
+
+-- truth values that follow from each other are the same
+follow : (p q : Bool) → (p ≡ true → q ≡ true) → (q ≡ true → p ≡ true) → p ≡ q
+follow true true f g = refl
+follow true false f g = absurd (false≢true (f refl))
+follow false true f g = absurd (false≢true (g refl))
+follow false false f g = refl
+
+pub sort_named : (sorts : List Name) → has_repeat (λ name. name) sorts ≡ false → (a b : ℕ) (own other : Name) → a < length sorts → b < length sorts → same_name (slice_index_or sorts a own) (slice_index_or sorts b other) ≡ (b == a)
+sort_named sorts apart a b own other l m = follow (same_name one another) (b == a)
+    (λ same. eq-eqb b a (sym (number_back sorts apart b m other) ∙ sym (number_same sorts one another same) ∙ number_back sorts apart a l own))
+    (λ same. subst (λ x. same_name one x ≡ true) (one_is same) (same_name-refl one))
+  where
+    one : Name
+    one = slice_index_or sorts a own
+
+    another : Name
+    another = slice_index_or sorts b other
+
+    one_is : (b == a) ≡ true → one ≡ another
+    one_is same =
+        let places : b ≡ a = eqb-true b a same in
+        same_Some one another (sym (found_at sorts a own l) ∙ ap (slice_get sorts) (sym places) ∙ found_at sorts b other m)
 
 use_known : (flaw : Flaw) (n : ℕ) → use_has flaw (Some n) n ≡ false
 use_known Arity n = ap not (eq-eqb n n refl)
@@ -151,6 +183,52 @@ knows_places sorts vars places nums as_many as_long apart below at = record {
       let apart_typed : has_repeat (λ x. x.name) (typed_by_places vars places) ≡ false = sym (repeat-map (λ name. name) (λ x. x.name) (typed_by_places vars places)) ∙ ap (has_repeat (λ name. name)) names ∙ apart in
       let within : v < length vars = omega (arith, as_many, slice_get_within nums v sort e) in
       stands (typed_by_places vars places) apart_typed v (slice_index_or vars v own) sort_name (typed_at vars places v (slice_index_or vars v own) sort_name (found_at vars v own within) (at v sort sort_name e is));
+}
+
+-- what stands in front keeps its sort, and what stands behind has its own where nothing in front has its name
+sort_front : (scope more : List Typed) (name sort : Name) → sort_of_variable scope name ≡ Some sort → sort_of_variable (scope ++ more) name ≡ Some sort
+sort_front scope more name sort e = step (find (λ x. same_name x.name name) scope) refl e
+  where
+    step : (found : Option Typed) → find (λ x. same_name x.name name) scope ≡ found → option_map (λ x. x.sort) found ≡ Some sort →
+        sort_of_variable (scope ++ more) name ≡ Some sort
+    step None is h = cc
+    step (Some x) is h = ap (option_map (λ y. y.sort)) (found_first (λ y. same_name y.name name) scope more x is) ∙ h
+
+sort_behind : (scope more : List Typed) (name : Name) → is_among (map (λ v. v.name) scope) name ≡ false → sort_of_variable (scope ++ more) name ≡ sort_of_variable more name
+sort_behind [] more name h = refl
+sort_behind (v ∷ scope) more name h =
+    let parts = or_parts (same_name v.name name) (is_among (map (λ x. x.name) scope) name) h in
+    ap (λ b. option_map (λ x. x.sort) (cond b (Some v) (find (λ x. same_name x.name name) (scope ++ more)))) parts.0 ∙ sort_behind scope more name parts.1
+
+pub knows_more : (sorts : List Name) (scope more : List Typed) (names : List Name) (nums : List ℕ) → Knows sorts scope names nums → Knows sorts (scope ++ more) names nums
+knows_more sorts scope more names nums h = record {
+  declared = h.declared;
+  each = λ own v sort sort_name e is. sort_front scope more (slice_index_or names v own) sort_name (h.each own v sort sort_name e is);
+}
+
+-- a scope gives each constant that no variable hides its sort
+pub record KnowsConstants (s : Specification) (scope : List Typed) (names : List Name) : Type 0 where
+  pub each : (own : Name) (k sort : ℕ) (sort_name : Name) → IsSaidByName s names k → sort_of_constant s k ≡ Some sort → slice_get s.sorts sort ≡ Some sort_name → sort_of_variable scope (constant_name s own k) ≡ Some sort_name
+
+-- the constant that has a sort
+pub constant_there : (found : Option Constant) (sort : ℕ) → option_map (λ c. c.sort) found ≡ Some sort → (c : Constant) × (found ≡ Some c) × (c.sort ≡ sort)
+constant_there None sort e = cc
+constant_there (Some c) sort e = (c, refl, same_Some c.sort sort e)
+
+pub knows_constants : (s : Specification) → has_repeat (λ c. c.name) s.constants ≡ false → (vars : List Typed) (names : List Name) → map (λ v. v.name) vars ≡ names →
+    KnowsConstants s (vars ++ map (constant_line s.sorts) s.constants) names
+knows_constants s apart vars names same = record {
+  each = λ own k sort sort_name said e is.
+      let at = constant_there (slice_get s.constants k) sort e in
+      let c = at.0 in
+      let lines = map (constant_line s.sorts) s.constants in
+      let name : constant_name s own k ≡ c.name = ap (λ found. option_map_or (λ x. x.name) found own) at.1 in
+      let hidden : is_among (map (λ v. v.name) vars) c.name ≡ false = ap (λ all. is_among all c.name) same ∙ said.each c at.1 in
+      let here : slice_index_or s.sorts c.sort c.name ≡ sort_name = get_or_from_slice_get s.sorts c.sort sort_name c.name (subst (λ n. slice_get s.sorts n ≡ Some sort_name) (sym at.2) is) in
+      ap (sort_of_variable (vars ++ lines)) name
+      ∙ sort_behind vars lines c.name hidden
+      ∙ stands lines (repeat-map (λ x. x.name) (constant_line s.sorts) s.constants ∙ apart) k c.name (slice_index_or s.sorts c.sort c.name) (slice_get-mapped (constant_line s.sorts) s.constants k c at.1)
+      ∙ ap (λ n. Some n) here;
 }
 
 -- a variable of a known sort, in a place of that sort

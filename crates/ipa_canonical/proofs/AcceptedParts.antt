@@ -5,6 +5,7 @@
 --   effect_clean      an effect, or a further remove of a bound
 --   bound_clean       a bound
 --   knows_bound       the variables of a bound, for its further removes
+--   bound_names       and their names
 use Rattle.std.proofs.Common.{◌≡◌, ℕ, ◌<◌, Bool, true, false, ◌||◌, List, [], length, map, take, slice_index, Option, Some, refl, sym, ap, subst, ◌∙◌, arith}
 use Rattle.std.specs.List.{slice_get, slice_index_or, list_any, find, zip}
 use Rattle.std.specs.Option.{option_map, option_map_or}
@@ -18,7 +19,7 @@ use Rattle.ipa_spec.specs.Fits.{IsFit, AtomFits, LiteralFits, EffectFits}
 use Rattle.ipa_spec.specs.FoundLaws.{map_at, take_at, declared, said_of, none_of}
 use Rattle.ipa_spec.specs.declared.faults.FaultKind.{FaultKind}
 use Rattle.ipa_spec.specs.declared.faults.FaultKind.TheVariants as kind
-use Rattle.ipa_spec.specs.Constants.{sort_of_term}
+use Rattle.ipa_spec.specs.Constants.{sort_of_constant, sort_of_term}
 use Rattle.ipa_spec.specs.declared.constants.Term.{Term}
 use Rattle.ipa_spec.specs.declared.constants.Term.TheVariants.{Var as Variable, Const as Fixed}
 use Rattle.ipa_spec.specs.declared.names.Name.{Name}
@@ -32,10 +33,10 @@ use Rattle.ipa_spec.specs.declared.operations.Effect.{Effect}
 use Rattle.ipa_spec.specs.declared.bounds.Bound.{Bound}
 use Rattle.ipa_spec.specs.declared.specification.Specification.{Specification}
 use Rattle.ipa_forms.specs.declared.forms.Typed.{Typed}
-use Rattle.ipa_canonical.specs.Canonical.{predicate_name, term_name, atom_form, literal_form, arg_form, args_form, bound_vars}
+use Rattle.ipa_canonical.specs.Canonical.{predicate_name, constant_name, term_name, atom_form, literal_form, arg_form, args_form, bound_vars}
 use Rattle.ipa_names.specs.Scopes.{predicate_named, places_of, sort_of_variable, typed_by_places}
 use Rattle.ipa_names.specs.Flaws.{arity_named, use_has, list_has, counted_has, place_has, variable_has, atom_has, literal_has, wild_has, argument_place_has, argument_has, effect_has, bound_has}
-use Rattle.ipa_canonical.specs.Named.{predicate_line}
+use Rattle.ipa_canonical.specs.Named.{constant_line, predicate_line}
 use Rattle.ipa_canonical.specs.Shapes.{LiteralShaped, IsShaped}
 use Rattle.ipa_names.specs.declared.flaws.Flaw.{Flaw}
 use Rattle.ipa_names.specs.declared.flaws.Flaw.TheVariants.{Arity, SortMismatch, UnknownName, Duplicate, WildAdd, FreeVariable}
@@ -44,13 +45,13 @@ use Rattle.ipa_names.specs.declared.declared.OperationLines.{OperationLines}
 use Rattle.ipa_names.specs.declared.declared.BoundLines.{BoundLines}
 use Rattle.ipa_names.specs.declared.declared.Declared.{Declared}
 use Rattle.ipa_spec.specs.FaultlessFits.{SpecificationParts}
-use Rattle.ipa_canonical.proofs.NoConstants.{no_constant}
-use Rattle.ipa_canonical.proofs.Numbers.{find_back, among_first, found_at}
+use Rattle.ipa_canonical.specs.Hidden.{IsSaidByName, TermIsSaid, AtomIsSaid, LiteralIsSaid, EffectIsSaid}
+use Rattle.ipa_canonical.proofs.Numbers.{find_back, among_first, found_at, typed_names}
 use Rattle.ipa_names.specs.NumberLaws.{repeat-map, slice_get-mapped}
-use Rattle.ipa_canonical.proofs.AcceptedNames.{none_zipped, among_at, use_clean, list_clean, counted_clean, Knows, knows_places, place_clean, variable_clean, comparison_clean}
+use Rattle.ipa_canonical.proofs.AcceptedNames.{none_zipped, among_at, use_clean, list_clean, counted_clean, Knows, KnowsConstants, knows_places, place_clean, variable_clean, comparison_clean}
 
 abbrev pub full : Specification → List ClauseLine → List OperationLines → List BoundLines → Declared
-full s cs os bs = record { sorts = s.sorts; constants = []; predicates = map (predicate_line s.sorts) s.predicates; clauses = cs; operations = os; bounds = bs }
+full s cs os bs = record { sorts = s.sorts; constants = map (constant_line s.sorts) s.constants; predicates = map (predicate_line s.sorts) s.predicates; clauses = cs; operations = os; bounds = bs }
 
 wild_clean : (flaw : Flaw) (add : Bool) → add ≡ false → wild_has flaw add ≡ false
 wild_clean WildAdd add h = h
@@ -64,7 +65,7 @@ none_true : (b : Bool) → (b ≡ true → ⊥) → b ≡ false
 none_true false h = refl
 none_true true h = absurd (h refl)
 
-module _ (s : Specification) (fit : IsFit s) (flaws : SpecificationParts s) (shaped : IsShaped s) (none : s.constants ≡ []) (cs : List ClauseLine) (os : List OperationLines) (bs : List BoundLines) where
+module _ (s : Specification) (fit : IsFit s) (flaws : SpecificationParts s) (shaped : IsShaped s) (cs : List ClauseLine) (os : List OperationLines) (bs : List BoundLines) where
   predicate_known : (own : Name) (n : ℕ) (p : Predicate) → slice_get s.predicates n ≡ Some p → predicate_named (full s cs os bs) (predicate_name s own n) ≡ Some (predicate_line s.sorts p)
   predicate_known own n p e =
       let here : predicate_name s own n ≡ p.name = ap (λ f. option_map_or (λ q. q.name) f own) e in
@@ -90,24 +91,24 @@ module _ (s : Specification) (fit : IsFit s) (flaws : SpecificationParts s) (sha
       let below : at.0 < length s.sorts = subst (λ v. v < length s.sorts) number (fit.place_sort n k p e taken.0) in
       ap (slice_get s.sorts) number ∙ found_at s.sorts at.0 p.name below ∙ ap (λ x. Some x) at.2
 
-  module _ (scope : List Typed) (names : List Name) (nums : List ℕ) (own : Name) (knows : Knows s.sorts scope names nums) where
-    -- a term that has a sort is a variable of it
-    term_known : (t : Term) (sort : ℕ) (sort_name : Name) → sort_of_term s nums t ≡ Some sort → slice_get s.sorts sort ≡ Some sort_name →
+  module _ (scope : List Typed) (names : List Name) (nums : List ℕ) (own : Name) (knows : Knows s.sorts scope names nums) (fixed : KnowsConstants s scope names) where
+    -- a term that has a sort is a variable or a constant of it
+    term_known : (t : Term) (sort : ℕ) (sort_name : Name) → TermIsSaid s names t → sort_of_term s nums t ≡ Some sort → slice_get s.sorts sort ≡ Some sort_name →
         sort_of_variable scope (term_name s own names t) ≡ Some sort_name
-    term_known (Variable v) sort sort_name e there = knows.each own v sort sort_name e there
-    term_known (Fixed k) sort sort_name e there = absurd (no_constant s none k sort e)
+    term_known (Variable v) sort sort_name said e there = knows.each own v sort sort_name e there
+    term_known (Fixed k) sort sort_name said e there = fixed.each own k sort sort_name said e there
 
     term_below : (t : Term) (sort : ℕ) → sort_of_term s nums t ≡ Some sort → sort < length s.sorts
     term_below (Variable v) sort e = knows.declared v sort e
     term_below (Fixed k) sort e = fit.constant_sort k sort e
 
-    -- the variable in a place of an atom
+    -- the variable or constant in a place of an atom
     record SaidAt (p : Predicate) (k : ℕ) (name : Name) : Type 0 where
       below : slice_index p.sorts k < length s.sorts
       known : (sort : Name) → slice_get s.sorts (slice_index p.sorts k) ≡ Some sort → sort_of_variable scope name ≡ Some sort
 
-    said_at : (a : Atom) (fits : AtomFits s nums a) (k : ℕ) (name : Name) → slice_get (atom_form s own names a).args k ≡ Some name → SaidAt fits.predicate k name
-    said_at a fits k name e =
+    said_at : (a : Atom) (fits : AtomFits s nums a) (is_said : AtomIsSaid s names a) (k : ℕ) (name : Name) → slice_get (atom_form s own names a).args k ≡ Some name → SaidAt fits.predicate k name
+    said_at a fits is_said k name e =
         let arity : arity_of s.predicates a.predicate ≡ fits.predicate.arity = ap (λ found. option_map_or (λ q. q.arity) found 0) fits.declared in
         let at = map_at (term_name s own names) (take (arity_of s.predicates a.predicate) a.args) k name e in
         let taken = take_at (arity_of s.predicates a.predicate) a.args k at.0 at.1 in
@@ -116,11 +117,11 @@ module _ (s : Specification) (fit : IsFit s) (flaws : SpecificationParts s) (sha
         subst (λ t. sort_of_term s nums t ≡ Some (slice_index fits.predicate.sorts k)) term (fits.places k (omega (arith, arity, taken.0))) in
         record {
           below = term_below at.0 (slice_index fits.predicate.sorts k) here;
-          known = λ sort there. subst (λ x. sort_of_variable scope x ≡ Some sort) at.2 (term_known at.0 (slice_index fits.predicate.sorts k) sort here there);
+          known = λ sort there. subst (λ x. sort_of_variable scope x ≡ Some sort) at.2 (term_known at.0 (slice_index fits.predicate.sorts k) sort (subst (TermIsSaid s names) term (is_said.places k)) here there);
         }
 
-    atom_clean : (flaw : Flaw) (a : Atom) → AtomFits s nums a → length a.args ≡ 3 → atom_has flaw (full s cs os bs) scope (atom_form s own names a) ≡ false
-    atom_clean flaw a fits wide =
+    atom_clean : (flaw : Flaw) (a : Atom) → AtomFits s nums a → AtomIsSaid s names a → length a.args ≡ 3 → atom_has flaw (full s cs os bs) scope (atom_form s own names a) ≡ false
+    atom_clean flaw a fits is_said wide =
         let p = fits.predicate in
         let arity : arity_of s.predicates a.predicate ≡ p.arity = ap (λ found. option_map_or (λ q. q.arity) found 0) fits.declared in
         let args = (atom_form s own names a).args in
@@ -130,27 +131,27 @@ module _ (s : Specification) (fit : IsFit s) (flaws : SpecificationParts s) (sha
         let placed : list_any (place_has flaw scope) (zip args places) ≡ false =
         ap (λ all. list_any (place_has flaw scope) (zip args all)) (places_known own a.predicate p fits.declared)
         ∙ none_zipped (place_has flaw scope) args (predicate_line s.sorts p).sorts (λ k name sort e f.
-        let said = said_at a fits k name e in
+        let said = said_at a fits is_said k name e in
         place_clean flaw scope name sort (said.known sort (place_at a.predicate k p sort fits.declared f))) in
         let free : list_any (variable_has flaw scope) args ≡ false = none_of (variable_has flaw scope) args (λ k name e.
-        let said = said_at a fits k name e in
+        let said = said_at a fits is_said k name e in
         let sort = slice_index_or s.sorts (slice_index p.sorts k) own in
         variable_clean flaw scope name sort (said.known sort (found_at s.sorts (slice_index p.sorts k) own said.below))) in
         or_from (use_has flaw (arity_named (full s cs os bs) (predicate_name s own a.predicate)) (length args) || list_any (place_has flaw scope) (zip args places)) (list_any (variable_has flaw scope) args)
         (or_from (use_has flaw (arity_named (full s cs os bs) (predicate_name s own a.predicate)) (length args)) (list_any (place_has flaw scope) (zip args places)) used placed) free
 
-    compared : (flaw : Flaw) (v w : Term) (sort : ℕ) → sort_of_term s nums v ≡ Some sort → sort_of_term s nums w ≡ Some sort →
+    compared : (flaw : Flaw) (v w : Term) (sort : ℕ) → TermIsSaid s names v × TermIsSaid s names w → sort_of_term s nums v ≡ Some sort → sort_of_term s nums w ≡ Some sort →
         literal_has flaw (full s cs os bs) scope (literal_form s own names (Same v w)) ≡ false
-    compared flaw v w sort e f =
+    compared flaw v w sort said e f =
         let name = slice_index_or s.sorts sort own in
         let there = found_at s.sorts sort own (term_below v sort e) in
-        comparison_clean flaw scope (term_name s own names v) (term_name s own names w) name (term_known v sort name e there) (term_known w sort name f there)
+        comparison_clean flaw scope (term_name s own names v) (term_name s own names w) name (term_known v sort name said.0 e there) (term_known w sort name said.1 f there)
 
-    pub literal_clean : (flaw : Flaw) (l : Literal) → LiteralFits s nums l → LiteralShaped l → literal_has flaw (full s cs os bs) scope (literal_form s own names l) ≡ false
-    literal_clean flaw (Holds a) fits wide = atom_clean flaw a fits wide
-    literal_clean flaw (Fails a) fits wide = atom_clean flaw a fits wide
-    literal_clean flaw (Same v w) fits wide = compared flaw v w fits.sort fits.first fits.second
-    literal_clean flaw (Differ v w) fits wide = compared flaw v w fits.sort fits.first fits.second
+    pub literal_clean : (flaw : Flaw) (l : Literal) → LiteralFits s nums l → LiteralIsSaid s names l → LiteralShaped l → literal_has flaw (full s cs os bs) scope (literal_form s own names l) ≡ false
+    literal_clean flaw (Holds a) fits said wide = atom_clean flaw a fits said wide
+    literal_clean flaw (Fails a) fits said wide = atom_clean flaw a fits said wide
+    literal_clean flaw (Same v w) fits said wide = compared flaw v w fits.sort said fits.first fits.second
+    literal_clean flaw (Differ v w) fits said wide = compared flaw v w fits.sort said fits.first fits.second
 
     -- the argument in a place of an effect
     record GivenAt (e : Effect) (p : Predicate) (k : ℕ) (argument : Option Name) : Type 0 where
@@ -158,10 +159,11 @@ module _ (s : Specification) (fit : IsFit s) (flaws : SpecificationParts s) (sha
       place : k < p.arity
       stands : slice_index_or e.args k Any ≡ arg
       argument_is : arg_form s own names arg ≡ argument
-      not_fixed : (c : ℕ) → arg ≡ FixedArg c → ⊥
+      said : (c : ℕ) → arg ≡ FixedArg c → IsSaidByName s names c
+      sorted : (c : ℕ) → arg ≡ FixedArg c → sort_of_constant s c ≡ Some (slice_index p.sorts k)
 
-    given_at : (e : Effect) (fits : EffectFits s nums e) (k : ℕ) (argument : Option Name) → slice_get (args_form s own names e) k ≡ Some argument → GivenAt e fits.predicate k argument
-    given_at e fits k argument is =
+    given_at : (e : Effect) (fits : EffectFits s nums e) (is_said : EffectIsSaid s names e) (k : ℕ) (argument : Option Name) → slice_get (args_form s own names e) k ≡ Some argument → GivenAt e fits.predicate k argument
+    given_at e fits is_said k argument is =
         let arity : arity_of s.predicates e.predicate ≡ fits.predicate.arity = ap (λ found. option_map_or (λ q. q.arity) found 0) fits.declared in
         let at = map_at (arg_form s own names) (take (arity_of s.predicates e.predicate) e.args) k argument is in
         let taken = take_at (arity_of s.predicates e.predicate) e.args k at.0 at.1 in
@@ -171,27 +173,31 @@ module _ (s : Specification) (fit : IsFit s) (flaws : SpecificationParts s) (sha
           place = omega (arith, arity, taken.0);
           stands = here;
           argument_is = at.2;
-          not_fixed = λ c same. no_constant s none c (slice_index fits.predicate.sorts k) (fits.fixed k c (omega (arith, arity, taken.0)) (here ∙ same));
+          said = λ c same. is_said.places k c (here ∙ same);
+          sorted = λ c same. fits.fixed k c (omega (arith, arity, taken.0)) (here ∙ same);
         }
 
-    place_given : (flaw : Flaw) (arg : Arg) (sort : ℕ) (name : Name) → ((c : ℕ) → arg ≡ FixedArg c → ⊥) →
+    place_given : (flaw : Flaw) (arg : Arg) (sort : ℕ) (name : Name) → ((c : ℕ) → arg ≡ FixedArg c → IsSaidByName s names c) → ((c : ℕ) → arg ≡ FixedArg c → sort_of_constant s c ≡ Some sort) →
         ((v : ℕ) → arg ≡ Parameter v → slice_get nums v ≡ Some sort) → slice_get s.sorts sort ≡ Some name →
         argument_place_has flaw scope (arg_form s own names arg, name) ≡ false
-    place_given flaw (Parameter v) sort name none h is = place_clean flaw scope (slice_index_or names v own) name (knows.each own v sort name (h v refl) is)
-    place_given flaw (FixedArg c) sort name none h is = absurd (none c refl)
-    place_given flaw Any sort name none h is = refl
+    place_given flaw (Parameter v) sort name said sorted h is = place_clean flaw scope (slice_index_or names v own) name (knows.each own v sort name (h v refl) is)
+    place_given flaw (FixedArg c) sort name said sorted h is = place_clean flaw scope (constant_name s own c) name (fixed.each own c sort name (said c refl) (sorted c refl) is)
+    place_given flaw Any sort name said sorted h is = refl
 
-    use_given : (flaw : Flaw) (add : Bool) (arg : Arg) (sort : ℕ) → ((c : ℕ) → arg ≡ FixedArg c → ⊥) →
+    use_given : (flaw : Flaw) (add : Bool) (arg : Arg) (sort : ℕ) → ((c : ℕ) → arg ≡ FixedArg c → IsSaidByName s names c) → ((c : ℕ) → arg ≡ FixedArg c → sort_of_constant s c ≡ Some sort) →
         ((v : ℕ) → arg ≡ Parameter v → slice_get nums v ≡ Some sort) → (arg ≡ Any → add ≡ false) →
         argument_has flaw scope add (arg_form s own names arg) ≡ false
-    use_given flaw add (Parameter v) sort none h wild =
+    use_given flaw add (Parameter v) sort said sorted h wild =
         let there = found_at s.sorts sort own (knows.declared v sort (h v refl)) in
         variable_clean flaw scope (slice_index_or names v own) (slice_index_or s.sorts sort own) (knows.each own v sort (slice_index_or s.sorts sort own) (h v refl) there)
-    use_given flaw add (FixedArg c) sort none h wild = absurd (none c refl)
-    use_given flaw add Any sort none h wild = wild_clean flaw add (wild refl)
+    use_given flaw add (FixedArg c) sort said sorted h wild =
+        let name = slice_index_or s.sorts sort own in
+        let there = found_at s.sorts sort own (fit.constant_sort c sort (sorted c refl)) in
+        variable_clean flaw scope (constant_name s own c) name (fixed.each own c sort name (said c refl) (sorted c refl) there)
+    use_given flaw add Any sort said sorted h wild = wild_clean flaw add (wild refl)
 
-    pub effect_clean : (flaw : Flaw) (add : Bool) (e : Effect) → (add ≡ true → e.add ≡ true) → EffectFits s nums e → length e.args ≡ 3 → effect_has flaw (full s cs os bs) scope (record { add = add; predicate = predicate_name s own e.predicate; args = args_form s own names e }) ≡ false
-    effect_clean flaw add e adds fits wide =
+    pub effect_clean : (flaw : Flaw) (add : Bool) (e : Effect) → (add ≡ true → e.add ≡ true) → EffectFits s nums e → EffectIsSaid s names e → length e.args ≡ 3 → effect_has flaw (full s cs os bs) scope (record { add = add; predicate = predicate_name s own e.predicate; args = args_form s own names e }) ≡ false
+    effect_clean flaw add e adds fits is_said wide =
         let p = fits.predicate in
         let arity : arity_of s.predicates e.predicate ≡ p.arity = ap (λ found. option_map_or (λ q. q.arity) found 0) fits.declared in
         let args = args_form s own names e in
@@ -201,11 +207,11 @@ module _ (s : Specification) (fit : IsFit s) (flaws : SpecificationParts s) (sha
         let placed : list_any (argument_place_has flaw scope) (zip args places) ≡ false =
         ap (λ all. list_any (argument_place_has flaw scope) (zip args all)) (places_known own e.predicate p fits.declared)
         ∙ none_zipped (argument_place_has flaw scope) args (predicate_line s.sorts p).sorts (λ k argument sort is f.
-        let given = given_at e fits k argument is in
-        subst (λ x. argument_place_has flaw scope (x, sort) ≡ false) given.argument_is (place_given flaw given.arg (slice_index p.sorts k) sort given.not_fixed (λ v same. fits.places k v given.place (given.stands ∙ same)) (place_at e.predicate k p sort fits.declared f))) in
+        let given = given_at e fits is_said k argument is in
+        subst (λ x. argument_place_has flaw scope (x, sort) ≡ false) given.argument_is (place_given flaw given.arg (slice_index p.sorts k) sort given.said given.sorted (λ v same. fits.places k v given.place (given.stands ∙ same)) (place_at e.predicate k p sort fits.declared f))) in
         let free : list_any (argument_has flaw scope add) args ≡ false = none_of (argument_has flaw scope add) args (λ k argument is.
-        let given = given_at e fits k argument is in
-        subst (λ x. argument_has flaw scope add x ≡ false) given.argument_is (use_given flaw add given.arg (slice_index p.sorts k) given.not_fixed (λ v same. fits.places k v given.place (given.stands ∙ same))
+        let given = given_at e fits is_said k argument is in
+        subst (λ x. argument_has flaw scope add x ≡ false) given.argument_is (use_given flaw add given.arg (slice_index p.sorts k) given.said given.sorted (λ v same. fits.places k v given.place (given.stands ∙ same))
         (λ any. none_true add (λ is_add. fits.exact (adds is_add) k given.place (given.stands ∙ any))))) in
         or_from (use_has flaw (arity_named (full s cs os bs) (predicate_name s own e.predicate)) (length args) || list_any (argument_place_has flaw scope) (zip args places)) (list_any (argument_has flaw scope add) args)
         (or_from (use_has flaw (arity_named (full s cs os bs) (predicate_name s own e.predicate)) (length args)) (list_any (argument_place_has flaw scope) (zip args places)) used placed) free
@@ -263,3 +269,9 @@ module _ (s : Specification) (fit : IsFit s) (flaws : SpecificationParts s) (sha
       (λ k sort name at there. slice_get-mapped (λ v. slice_index_or s.sorts v p.name) (take p.arity p.sorts) k sort at ∙ ap (λ x. Some x) (get_or_from_slice_get s.sorts sort name p.name there)) in
       subst (λ places. Knows s.sorts (typed_by_places vars places) vars (place_sorts s.predicates b.predicate)) (sym (places_known b.name b.predicate p is.declared))
       (subst (λ nums. Knows s.sorts (typed_by_places vars (predicate_line s.sorts p).sorts) vars nums) (sym sorts) known)
+
+  pub bound_names : (n : ℕ) (b : Bound) → slice_get s.bounds n ≡ Some b → map (λ v. v.name) (typed_by_places (bound_vars s.predicates b) (places_of (full s cs os bs) (predicate_name s b.name b.predicate))) ≡ bound_vars s.predicates b
+  bound_names n b e =
+      let is = bound_is n b e in
+      typed_names (bound_vars s.predicates b) (places_of (full s cs os bs) (predicate_name s b.name b.predicate))
+      (omega (arith, is.many, place_count b.predicate is.predicate is.declared, ap length (places_known b.name b.predicate is.predicate is.declared)))

@@ -1,11 +1,10 @@
-pub mod NoConstants
 pub mod TextLemmas
 pub mod PlainLemmas
 pub mod LineLemmas
 pub mod Accepted
 pub mod AcceptedBounds
 pub mod AcceptedChain
-pub mod AcceptedEmpty
+pub mod AcceptedAlone
 pub mod AcceptedLimits
 pub mod AcceptedLines
 pub mod AcceptedNames
@@ -13,7 +12,9 @@ pub mod AcceptedOperations
 pub mod AcceptedParts
 pub mod AcceptedWhole
 pub mod DeclaredBack
-pub mod NothingSaid
+pub mod SetupUnsaid
+pub mod FirstBroken
+pub mod OpenNames
 pub mod Numbers
 pub mod PartsBack
 pub mod Printable

@@ -34,16 +34,17 @@ use Rattle.ipa_spec.specs.declared.operations.Action.TheVariants.{Op, Drop}
 use Rattle.ipa_spec.specs.declared.bounds.Bound.{Bound}
 use Rattle.ipa_spec.specs.declared.specification.Specification.{Specification}
 use Rattle.ipa_forms.specs.declared.forms.Typed.{Typed}
-use Rattle.ipa_names.specs.Naming.{number_in, number_or_count}
+use Rattle.ipa_names.specs.Naming.{number_in, number_or_count, is_among}
 use Rattle.ipa_names.specs.Scopes.{places_of, bound_variables}
 use Rattle.ipa_names.specs.Meaning.{predicate_number, sort_number, constant_number, variable_number, constant_of, term_of, term_arg, predicate_of, var_of, atom_of, literal_of, clause_of, arg_of, effect_of, operation_of, bound_of, specification_of}
-use Rattle.ipa_canonical.specs.Canonical.{predicate_name, typed_form, term_name, atom_form, literal_form, names_of, arg_form, bound_vars}
+use Rattle.ipa_canonical.specs.Canonical.{predicate_name, constant_name, typed_form, term_name, atom_form, literal_form, names_of, arg_form, bound_vars}
 use Rattle.ipa_canonical.specs.Named.{constant_line, predicate_line, clause_line, effect_line, remove_line, operation_lines, bound_lines, named}
 use Rattle.ipa_canonical.specs.Shapes.{LiteralShaped, IsShaped}
 use Rattle.ipa_canonical.proofs.Numbers.{number_back, find_back, three_back, names_back, each_back, among_first, found_at, typed_names}
-use Rattle.ipa_names.specs.NumberLaws.{repeat-map, slice_get-mapped, number_found}
+use Rattle.ipa_names.specs.NumberLaws.{repeat-map, slice_get-mapped, number_found, number_absent}
+use Rattle.ipa_canonical.proofs.AcceptedNames.{constant_there}
 use Rattle.ipa_spec.specs.FaultlessFits.{SpecificationParts}
-use Rattle.ipa_canonical.proofs.NoConstants.{no_constant}
+use Rattle.ipa_canonical.specs.Hidden.{IsSaidByName, TermIsSaid, AtomIsSaid, LiteralIsSaid, EffectIsSaid, HidesNoConstant}
 use Rattle.ipa_canonical.proofs.UnusedPlaces.{drop_zero, drop_same, place_unused}
 
 -- the further removes of a bound are the later effects of its drop
@@ -57,7 +58,7 @@ others same_names own (v ∷ vars) a wide past k l m =
     let at = found_at (v ∷ vars) k own (omega (arith, wide, m)) in
     sym (same_names v (slice_index_or (v ∷ vars) k own) (drop_same v a (v ∷ vars) past k l (slice_index_or (v ∷ vars) k own) at))
 
-module _ (s : Specification) (fit : IsFit s) (flaws : SpecificationParts s) (shaped : IsShaped s) (none : s.constants ≡ []) where
+module _ (s : Specification) (fit : IsFit s) (flaws : SpecificationParts s) (shaped : IsShaped s) (open_names : HidesNoConstant s) where
   sort_back : (own : Name) (n : ℕ) → n < length s.sorts → sort_number (named s) (slice_index_or s.sorts n own) ≡ n
   sort_back own n l = number_back s.sorts flaws.sort_names n l own
 
@@ -94,48 +95,65 @@ module _ (s : Specification) (fit : IsFit s) (flaws : SpecificationParts s) (sha
         ∙ number_found names (slice_index_or names v own) (subst (λ n. n < length names) (sym back) within)
         ∙ ap (λ n. Some n) back
 
-    term_back : (t : Term) (sort : ℕ) → sort_of_term s sorts t ≡ Some sort → term_of (named s) scope (term_name s own names t) ≡ t
-    term_back (Variable v) sort e =
+    -- a constant that no variable hides, by its name
+    constant_said : (k sort : ℕ) → IsSaidByName s names k → sort_of_constant s k ≡ Some sort → term_of (named s) scope (constant_name s own k) ≡ Fixed k
+    constant_said k sort said e =
+        let at = constant_there (slice_get s.constants k) sort e in
+        let c = at.0 in
+        let name : constant_name s own k ≡ c.name = ap (λ found. option_map_or (λ x. x.name) found own) at.1 in
+        let all = map (λ x. x.name) s.constants in
+        let lines : map (λ x. x.name) (map (constant_line s.sorts) s.constants) ≡ all = map-map (λ x. x.name) (constant_line s.sorts) s.constants in
+        let there : slice_index_or all k own ≡ c.name = get_or_from_slice_get all k c.name own (slice_get-mapped (λ x. x.name) s.constants k c at.1) in
+        let below : k < length all = omega (arith, slice_get_within s.constants k c at.1, length-map s.constants (λ x. x.name)) in
+        let number : constant_number (named s) c.name ≡ k =
+        (λ i. number_or_count (lines i) (sym there i)) ∙ number_back all (repeat-map (λ n. n) (λ x. x.name) s.constants ∙ flaws.constant_names) k below own in
+        let hidden : is_among (map (λ v. v.name) scope) c.name ≡ false = ap (λ ns. is_among ns c.name) same ∙ said.each c at.1 in
+        ap (term_of (named s) scope) name
+        ∙ ap (λ found. option_map_or (λ n. Variable n) found (Fixed (constant_number (named s) c.name))) (number_absent (map (λ v. v.name) scope) c.name hidden)
+        ∙ ap (λ n. Fixed n) number
+
+    term_back : (t : Term) (sort : ℕ) → TermIsSaid s names t → sort_of_term s sorts t ≡ Some sort → term_of (named s) scope (term_name s own names t) ≡ t
+    term_back (Variable v) sort said e =
         let name = slice_index_or names v own in
         ap (λ found. option_map_or (λ n. Variable n) found (Fixed (constant_number (named s) name))) (variable_back v sort e)
-    term_back (Fixed k) sort e = absurd (no_constant s none k sort e)
+    term_back (Fixed k) sort said e = constant_said k sort said e
 
-    atom_back : (a : Atom) → AtomFits s sorts a → length a.args ≡ 3 → numbered.atom_has kind.Arity s sorts a ≡ false → atom_of (named s) scope (atom_form s own names a) ≡ a
-    atom_back a fits wide whole =
+    atom_back : (a : Atom) → AtomFits s sorts a → AtomIsSaid s names a → length a.args ≡ 3 → numbered.atom_has kind.Arity s sorts a ≡ false → atom_of (named s) scope (atom_form s own names a) ≡ a
+    atom_back a fits said wide whole =
         let p = fits.predicate in
         let arity : arity_of s.predicates a.predicate ≡ p.arity = ap (λ found. option_map_or (λ q. q.arity) found 0) fits.declared in
         let unused = said_of (λ q. numbered.some_place (numbered.atom_place_has kind.Arity s sorts q a)) (numbered.undeclared_has kind.Arity) (slice_get s.predicates a.predicate) p fits.declared whole in
         let number = predicate_number_back own a.predicate p fits.declared in
         let args = three_back (term_of (named s) scope) (term_name s own names) (Variable 0) a.args (arity_of s.predicates a.predicate) wide (omega (arith, arity, fits.short))
-        (λ k l. term_back (numbered.term_at a k) (slice_index p.sorts k) (fits.places k (omega (arith, arity, l))))
+        (λ k l. term_back (numbered.term_at a k) (slice_index p.sorts k) (said.places k) (fits.places k (omega (arith, arity, l))))
         (λ k l m. place_unused (λ place. numbered.term_has kind.Arity s sorts (slice_index p.sorts place) (numbered.term_at a place)) p.arity a unused k (omega (arith, arity, l)) m) in
         λ i. record { predicate = number i; args = args i }
 
-    literal_back : (l : Literal) → LiteralFits s sorts l → LiteralShaped l → numbered.literal_has kind.Arity s sorts l ≡ false → literal_of (named s) scope (literal_form s own names l) ≡ l
-    literal_back (Holds a) fits wide whole = ap (λ x. Holds x) (atom_back a fits wide whole)
-    literal_back (Fails a) fits wide whole = ap (λ x. Fails x) (atom_back a fits wide whole)
-    literal_back (Same v w) fits wide whole = λ i. Same (term_back v fits.sort fits.first i) (term_back w fits.sort fits.second i)
-    literal_back (Differ v w) fits wide whole = λ i. Differ (term_back v fits.sort fits.first i) (term_back w fits.sort fits.second i)
+    literal_back : (l : Literal) → LiteralFits s sorts l → LiteralIsSaid s names l → LiteralShaped l → numbered.literal_has kind.Arity s sorts l ≡ false → literal_of (named s) scope (literal_form s own names l) ≡ l
+    literal_back (Holds a) fits said wide whole = ap (λ x. Holds x) (atom_back a fits said wide whole)
+    literal_back (Fails a) fits said wide whole = ap (λ x. Fails x) (atom_back a fits said wide whole)
+    literal_back (Same v w) fits said wide whole = λ i. Same (term_back v fits.sort said.0 fits.first i) (term_back w fits.sort said.1 fits.second i)
+    literal_back (Differ v w) fits said wide whole = λ i. Differ (term_back v fits.sort said.0 fits.first i) (term_back w fits.sort said.1 fits.second i)
 
     arg_back : (arg : Arg) (sort : ℕ) → ((v : ℕ) → arg ≡ Parameter v → slice_get sorts v ≡ Some sort) →
-        ((k : ℕ) → arg ≡ FixedArg k → sort_of_constant s k ≡ Some sort) → arg_of (named s) scope (arg_form s own names arg) ≡ arg
-    arg_back (Parameter v) sort h fixed = ap term_arg (term_back (Variable v) sort (h v refl))
-    arg_back (FixedArg k) sort h fixed = absurd (no_constant s none k sort (fixed k refl))
-    arg_back Any sort h fixed = refl
+        ((k : ℕ) → arg ≡ FixedArg k → sort_of_constant s k ≡ Some sort) → ((k : ℕ) → arg ≡ FixedArg k → IsSaidByName s names k) → arg_of (named s) scope (arg_form s own names arg) ≡ arg
+    arg_back (Parameter v) sort h fixed said = ap term_arg (term_back (Variable v) sort tt (h v refl))
+    arg_back (FixedArg k) sort h fixed said = ap term_arg (constant_said k sort (said k refl) (fixed k refl))
+    arg_back Any sort h fixed said = refl
 
-    args_said_back : (e : Effect) → EffectFits s sorts e → length e.args ≡ 3 → effect_of (named s) scope (effect_line s own names e) ≡ e
-    args_said_back e fits wide =
+    args_said_back : (e : Effect) → EffectFits s sorts e → EffectIsSaid s names e → length e.args ≡ 3 → effect_of (named s) scope (effect_line s own names e) ≡ e
+    args_said_back e fits said wide =
         let p = fits.predicate in
         let arity : arity_of s.predicates e.predicate ≡ p.arity = ap (λ found. option_map_or (λ q. q.arity) found 0) fits.declared in
         let number = predicate_number_back own e.predicate p fits.declared in
         let args = three_back (arg_of (named s) scope) (arg_form s own names) Any e.args (arity_of s.predicates e.predicate) wide (omega (arith, arity, fits.short))
-        (λ k l. arg_back (slice_index_or e.args k Any) (slice_index p.sorts k) (λ v is. fits.places k v (omega (arith, arity, l)) is) (λ c is. fits.fixed k c (omega (arith, arity, l)) is))
+        (λ k l. arg_back (slice_index_or e.args k Any) (slice_index p.sorts k) (λ v is. fits.places k v (omega (arith, arity, l)) is) (λ c is. fits.fixed k c (omega (arith, arity, l)) is) (λ c is. said.places k c is))
         (λ k l m. fits.unused k (omega (arith, arity, l)) m) in
         λ i. record { add = e.add; predicate = number i; args = args i }
 
-    remove_back : (e : Effect) → EffectFits s sorts e → length e.args ≡ 3 → e.add ≡ false → effect_of (named s) scope (remove_line s own names e) ≡ e
-    remove_back e fits wide removing =
-        let back = args_said_back e fits wide in
+    remove_back : (e : Effect) → EffectFits s sorts e → EffectIsSaid s names e → length e.args ≡ 3 → e.add ≡ false → effect_of (named s) scope (remove_line s own names e) ≡ e
+    remove_back e fits said wide removing =
+        let back = args_said_back e fits said wide in
         λ i. record { add = sym removing i; predicate = (back i).predicate; args = (back i).args }
 
   var_back : (v : Var) → v.sort < length s.sorts → var_of (named s) (typed_form s.sorts v) ≡ v
@@ -154,7 +172,7 @@ module _ (s : Specification) (fit : IsFit s) (flaws : SpecificationParts s) (sha
       let apart = repeat-map (λ name. name) (λ v. v.name) c.vars ∙ (has kind.Duplicate).0 in
       let vars = each_back (var_of (named s)) (typed_form s.sorts) c.vars (λ k v is. var_back v (fit.variable_sort n k v.sort c e (slice_get-mapped (λ x. x.sort) c.vars k v is))) in
       let literals = each_back (literal_of (named s) (map (typed_form s.sorts) c.vars)) (literal_form s c.name (names_of c.vars)) c.literals
-      (λ k l is. literal_back (map (typed_form s.sorts) c.vars) (names_of c.vars) (sorts_of_vars c.vars) c.name (said_names c.vars) apart (counts c.vars) l (fit.literals n k c l e is) (shaped.literals n k c l e is)
+      (λ k l is. literal_back (map (typed_form s.sorts) c.vars) (names_of c.vars) (sorts_of_vars c.vars) c.name (said_names c.vars) apart (counts c.vars) l (fit.literals n k c l e is) (open_names.literals n k c l e is) (shaped.literals n k c l e is)
       (list_any-false (numbered.literal_has kind.Arity s (sorts_of_vars c.vars)) c.literals (has kind.Arity).1 k l is)) in
       λ i. record { name = c.name; vars = vars i; literals = literals i }
 
@@ -169,11 +187,11 @@ module _ (s : Specification) (fit : IsFit s) (flaws : SpecificationParts s) (sha
       let params = each_back (var_of (named s)) (typed_form s.sorts) o.params (λ k v is. var_back v (fit.argument_sort (Op n) k v.sort (ap (λ all. slice_get all k) sorts ∙ slice_get-mapped (λ x. x.sort) o.params k v is))) in
       let needs = each_back (literal_of (named s) (map (typed_form s.sorts) o.params)) (literal_form s o.name (names_of o.params)) o.needs
       (λ k l is. literal_back (map (typed_form s.sorts) o.params) (names_of o.params) (sorts_of_vars o.params) o.name (said_names o.params) apart (counts o.params) l
-      (subst (λ all. LiteralFits s all l) sorts (fit.needs (Op n) k l (ap (λ all. slice_get all k) needs_are ∙ is))) (shaped.needs n k o l e is)
+      (subst (λ all. LiteralFits s all l) sorts (fit.needs (Op n) k l (ap (λ all. slice_get all k) needs_are ∙ is))) (open_names.needs n k o l e is) (shaped.needs n k o l e is)
       (list_any-false (numbered.literal_has kind.Arity s (sorts_of_vars o.params)) o.needs (has kind.Arity).1 k l is)) in
       let effects = each_back (effect_of (named s) (map (typed_form s.sorts) o.params)) (effect_line s o.name (names_of o.params)) o.effects
       (λ k effect is. args_said_back (map (typed_form s.sorts) o.params) (names_of o.params) (sorts_of_vars o.params) o.name (said_names o.params) apart (counts o.params) effect
-      (subst (λ all. EffectFits s all effect) sorts (fit.effects (Op n) k effect (ap (λ all. slice_get all k) effects_are ∙ is))) (shaped.effects n k o effect e is)) in
+      (subst (λ all. EffectFits s all effect) sorts (fit.effects (Op n) k effect (ap (λ all. slice_get all k) effects_are ∙ is))) (open_names.effects n k o effect e is) (shaped.effects n k o effect e is)) in
       λ i. record { name = o.name; params = params i; needs = needs i; effects = effects i }
 
   module _ (same_names : (a b : Name) → same_name a b ≡ true → a ≡ b) where
@@ -211,7 +229,7 @@ module _ (s : Specification) (fit : IsFit s) (flaws : SpecificationParts s) (sha
         let action_sorts : sorts_of s (Drop n) ≡ place_sorts s.predicates b.predicate = ap (λ f. option_map_or (λ x. place_sorts s.predicates x.predicate) f []) e in
         let dropped = λ (k : ℕ) (effect : Effect) (is : slice_get b.removes k ≡ Some effect). subst (λ all. EffectFits s all effect) action_sorts (fit.effects (Drop n) (suc k) effect (further s k effect b n e is)) in
         let removes = each_back (effect_of (named s) scope) (remove_line s b.name (bound_vars s.predicates b)) b.removes
-        (λ k effect is. remove_back scope (bound_vars s.predicates b) (place_sorts s.predicates b.predicate) b.name names apart as_many effect (dropped k effect is) (shaped.removes n k b effect e is) (fit.drops_remove n k effect b e is)) in
+        (λ k effect is. remove_back scope (bound_vars s.predicates b) (place_sorts s.predicates b.predicate) b.name names apart as_many effect (dropped k effect is) (open_names.removes n k b effect e is) (shaped.removes n k b effect e is) (fit.drops_remove n k effect b e is)) in
         λ i. record { name = b.name; predicate = number i; vars = vars i; counted = place i; most = b.most; removes = removes i; pick = b.pick }
 
     pub specification_back : specification_of (named s) ≡ s

@@ -4,3 +4,5 @@ pub mod Named
 pub mod Shapes
 pub mod Alone
 pub mod Rereading
+pub mod Hidden
+pub mod Printable

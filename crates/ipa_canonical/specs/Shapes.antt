@@ -2,8 +2,7 @@
 --
 --   LiteralShaped l   the atom of a literal has three places
 --   IsShaped s        so has each predicate, atom, effect and bound
---   HasNoConstants s  no constant is declared
-use Rattle.std.specs.Prelude.{◌≡◌, ℕ, [], length, slice_get, Some}
+use Rattle.std.specs.Prelude.{◌≡◌, ℕ, length, slice_get, Some}
 use Rattle.ipa_spec.specs.declared.predicates.Predicate.{Predicate}
 use Rattle.ipa_spec.specs.declared.clauses.Clause.{Clause}
 use Rattle.ipa_spec.specs.declared.clauses.Literal.{Literal}
@@ -18,10 +17,6 @@ LiteralShaped (Holds a) = length a.args ≡ 3
 LiteralShaped (Fails a) = length a.args ≡ 3
 LiteralShaped (Same v w) = Unit {0}
 LiteralShaped (Differ v w) = Unit {0}
-
--- no constant is declared
-abbrev pub HasNoConstants : Specification → Type 0
-HasNoConstants s = s.constants ≡ []
 
 pub record IsShaped (s : Specification) : Type 0 where
   pub predicates : (n : ℕ) (p : Predicate) → slice_get s.predicates n ≡ Some p → length p.sorts ≡ 3

@@ -2,9 +2,8 @@
 //! one way: sorts, constants, predicates, clauses, operations with their needs and effects, and
 //! bounds with their further removes. Read again, each line has the form that it was written for.
 //!
-//! Where no constant is declared, the text is read back as the specification that it was printed
-//! from, or, exactly where a clause is broken without facts and elements, is refused for that
-//! instance.
+//! The text of a document's specification is read back as that specification, with its constants as the only elements, or,
+//! exactly where a clause is broken there without facts, is refused for that instance.
 //!
 //! ```
 //! let text = print_spec(alloc, &document.spec)?; // of a document that was read

@@ -19,3 +19,4 @@ mod OneExampleLemmas
 mod OneDropLemmas
 mod OneAnalysisLemmas
 mod PartsLemmas
+mod BreakableLemmas

@@ -10,6 +10,7 @@
 --   AreReportedDrops s es       the examples are those of the drops that can break a clause: one for each, in order
 --   IsAnalysis s a              all of them, of a specification without a triple that is too wide
 --   IsPairAnalysis s left right es   the examples of one ordered pair
+--   IsApart s left right        left and right conflict on no clause, and no live triple of them is too wide
 --   IsClean a                   the analysis found nothing
 --   IsPairFault, IsAcceptFault   why an analysis is refused, or a specification not accepted
 use Rattle.std.specs.Prelude.{◌≡◌, ℕ, List, [], ◌∷◌}
@@ -90,6 +91,11 @@ pub record IsAnalysis (s : Specification) (a : Analysis) : Type 0 where
 pub record IsPairAnalysis (s : Specification) (left right : Action) (es : List Example) : Type 0 where
   pub narrow : IsNarrow s (IsOfPair s left right)
   pub conflicts : AreReported s (IsOfPair s left right) es
+
+-- left and right conflict on no clause, and no live triple of them is too wide
+pub record IsApart (s : Specification) (left right : Action) : Type 0 where
+  pub narrow : IsNarrow s (IsOfPair s left right)
+  pub apart : (k : ℕ) → Conflict s left right k → ⊥
 
 -- of the triples in question the first one that is too wide is named; want of memory is true of all
 abbrev pub IsPairFault : Specification → (Triple → Type 0) → PairFault → Type 0

@@ -2,6 +2,7 @@ pub mod Width
 pub mod Examples
 pub mod Analyses
 pub mod Asked
+pub mod Told
 pub mod Grounded
 pub mod Patterned
 pub mod Openness

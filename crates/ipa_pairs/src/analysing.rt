@@ -5,6 +5,7 @@ ghost use Rattle.ipa_pairs.specs.Width.{IsDeclared, IsOfPair};
 ghost use Rattle.ipa_pairs.specs.Analyses.{AreReported, IsAnalysis, IsPairAnalysis, IsPairFault};
 
 use crate::analysis::{Analysis, Conflict, PairFault};
+use crate::breaking::breakable_clauses;
 use crate::collecting::{all_unsafe_drops, conflicts_in_turn, push_conflicts_of_pair};
 use crate::parts::conflicts_by_parts;
 use crate::width::{first_wide, first_wide_of_pair};
@@ -69,12 +70,21 @@ pub fn analyse_pair(
     ensures conflicts { IfOk result (λ es. IsPairAnalysis spec.now left right es) }
     ensures fault { IfErr result (IsPairFault spec.now (IsOfPair spec.now left right)) }
 {
+    let breakable = breakable_clauses(spec, left);
     let mut patterns = 0;
-    if let Some(wide) = first_wide_of_pair(spec, left, right, &mut patterns) {
+    if let Some(wide) = first_wide_of_pair(spec, left, right, &breakable, &mut patterns) {
         return Err(wide.fault());
     }
     let mut grounded = List::new(alloc);
     let mut conflicts = List::new(alloc);
-    push_conflicts_of_pair(alloc, spec, &mut grounded, left, right, &mut conflicts)?;
+    push_conflicts_of_pair(
+        alloc,
+        spec,
+        &mut grounded,
+        left,
+        right,
+        &breakable,
+        &mut conflicts,
+    )?;
     Ok(conflicts)
 }

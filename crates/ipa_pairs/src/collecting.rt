@@ -5,15 +5,19 @@ ghost use Rattle.std.specs.Prelude.{◌≡◌, ◌<◌, length, IfOk, OnOk};
 ghost use Rattle.ipa_spec.specs.Actions.{IsAction};
 ghost use Rattle.ipa_pairs.specs.Width.{IsDeclared, IsOfPair};
 ghost use Rattle.ipa_pairs.specs.Analyses.{AreReported, AreReportedDrops};
+ghost use Rattle.ipa_pairs.specs.Told.{AreBreakable};
 ghost use Rattle.ipa_pairs.specs.Grounded.{AreOf};
 ghost use Rattle.ipa_pairs.specs.Triples.{triple, IsOfLeft};
 ghost use Rattle.ipa_pairs.specs.Collecting.{ExtendsConflicts, ExtendsDrops, IsDeclaredDrop, IsOfBound, bound_clause};
 
 use crate::actions::{action_at, action_count, bound_count, clause_count};
 use crate::analysis::{Conflict, UnsafeDrop};
+use crate::breaking::breakable_clauses;
 use crate::drops::find_unsafe_drop;
 use crate::groundings::Grounding;
 use crate::triples::find_conflict;
+use ipa_reduction::laws::conflicts_are_live;
+use ipa_spec::laws::spec_is_fit;
 use ipa_spec::{Action, List, Spec};
 use std::alloc::{AllocError, Global};
 
@@ -67,6 +71,7 @@ pub(crate) fn push_conflicts_of_left<'a>(
     ensures of { AreOf spec.now grounded.new }
     ensures extends { OnOk result (ExtendsConflicts spec.now (IsOfLeft spec.now left) conflicts.old conflicts.new) }
 {
+    let breakable = breakable_clauses(spec, left);
     for place in 0..action_count(spec) {
         push_conflicts_of_pair(
             alloc,
@@ -74,29 +79,34 @@ pub(crate) fn push_conflicts_of_left<'a>(
             grounded,
             left,
             action_at(spec, place),
+            &breakable,
             conflicts,
         )?;
     }
     Ok(())
 }
 
-/// Appends the examples of an ordered pair's triples.
+/// Appends the examples of an ordered pair's triples, where it is told which clauses left could break.
 pub(crate) fn push_conflicts_of_pair<'a>(
     alloc: Global,
     spec: &'a Spec,
     grounded: &mut List<Grounding<'a>>,
     left: Action,
     right: Action,
+    breakable: &[bool; 32],
     conflicts: &mut List<Conflict>,
 ) -> Result<(), AllocError>
     requires left { IsAction spec.now left }
     requires right { IsAction spec.now right }
+    requires breakable { AreBreakable spec.now left breakable.now }
     requires of { AreOf spec.now grounded.old }
     ensures of { AreOf spec.now grounded.new }
     ensures extends { OnOk result (ExtendsConflicts spec.now (IsOfPair spec.now left right) conflicts.old conflicts.new) }
 {
     for number in 0..clause_count(spec) {
-        push_conflict(alloc, spec, grounded, left, right, number, conflicts)?;
+        push_conflict(
+            alloc, spec, grounded, left, right, number, breakable, conflicts,
+        )?;
     }
     Ok(())
 }
@@ -109,15 +119,22 @@ fn push_conflict<'a>(
     left: Action,
     right: Action,
     number: u8,
+    breakable: &[bool; 32],
     conflicts: &mut List<Conflict>,
 ) -> Result<(), AllocError>
     requires left { IsAction spec.now left }
     requires right { IsAction spec.now right }
     requires clause { number < length spec.now.clauses }
+    requires breakable { AreBreakable spec.now left breakable.now }
     requires of { AreOf spec.now grounded.old }
     ensures of { AreOf spec.now grounded.new }
     ensures extends { OnOk result (ExtendsConflicts spec.now (λ t. t ≡ triple left right number) conflicts.old conflicts.new) }
 {
+    spec_is_fit(spec);
+    conflicts_are_live();
+    if !breakable[number as usize] {
+        return Ok(());
+    }
     match find_conflict(alloc, spec, grounded, left, right, number)? {
         Some(conflict) => conflicts.push(conflict),
         None => Ok(()),

@@ -1,12 +1,14 @@
 //! The first live triple that has too many patterns.
 ghost use Rattle.std.specs.Prelude.{◌≡◌, slice_get, Some, MatchOption};
 ghost use Rattle.ipa_spec.specs.Actions.{IsAction};
+ghost use Rattle.ipa_pairs.specs.Told.{AreBreakable};
 ghost use Rattle.ipa_pairs.specs.Width.{IsTooWide, IsDeclared, IsOfPair, IsNarrow};
 ghost use Rattle.ipa_pairs.specs.Triples.{IsOfLeft, IsFirstWide, IsWideAt};
 ghost use Rattle.ipa_pairs.specs.declared.analysis.PairFault.TheVariants.{TooWide};
 
 use crate::actions::{action_at, action_count, clause_count};
 use crate::analysis::PairFault;
+use crate::breaking::breakable_clauses;
 use crate::constants::constant_counts;
 use crate::sorts::triple_sorts;
 use ipa_ground::Patterns;
@@ -58,25 +60,29 @@ fn first_wide_of_left(spec: &Spec, left: Action, patterns: &mut u64) -> Option<W
     requires { IsAction spec.now left }
     ensures { MatchOption result (IsNarrow spec.now (IsOfLeft spec.now left)) (IsFirstWide spec.now (IsOfLeft spec.now left)) }
 {
+    let breakable = breakable_clauses(spec, left);
     for place in 0..action_count(spec) {
-        if let Some(wide) = first_wide_of_pair(spec, left, action_at(spec, place), patterns) {
+        let right = action_at(spec, place);
+        if let Some(wide) = first_wide_of_pair(spec, left, right, &breakable, patterns) {
             return Some(wide);
         }
     }
     None
 }
 
-/// The first of an ordered pair's triples that is too wide.
+/// The first of an ordered pair's triples that is too wide, where it is told which clauses left could break.
 pub(crate) fn first_wide_of_pair(
     spec: &Spec,
     left: Action,
     right: Action,
+    breakable: &[bool; 32],
     patterns: &mut u64,
 ) -> Option<Wide>
+    requires { AreBreakable spec.now left breakable.now }
     ensures { MatchOption result (IsNarrow spec.now (IsOfPair spec.now left right)) (IsFirstWide spec.now (IsOfPair spec.now left right)) }
 {
     for number in 0..clause_count(spec) {
-        if let Some(count) = wide_count(spec, left, right, number, patterns) {
+        if let Some(count) = wide_count(spec, left, right, number, breakable, patterns) {
             return Some(Wide {
                 left,
                 right,
@@ -94,13 +100,21 @@ fn wide_count(
     left: Action,
     right: Action,
     number: u8,
+    breakable: &[bool; 32],
     patterns: &mut u64,
 ) -> Option<u64>
+    requires { AreBreakable spec.now left breakable.now }
     ensures { MatchOption result (IsTooWide spec.now left right number → ⊥) (IsWideAt spec.now left right number) }
 {
+    spec_is_fit(spec);
     match spec.clauses().get(number as usize) {
-        Some(clause) => wide_count_on(spec, left, right, number, clause, patterns),
         None => None,
+        Some(clause) => {
+            if !breakable[number as usize] {
+                return None;
+            }
+            wide_count_on(spec, left, right, number, clause, patterns)
+        }
     }
 }
 

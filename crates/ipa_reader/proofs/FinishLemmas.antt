@@ -3,13 +3,16 @@
 --   finished      the document that stands behind all lines
 --   refused_end   the refusal of its base
 --   setup_fits    what its setup keeps
+--   setup_fitting that it fits the specification
 use Rattle.std.proofs.Common.{◌≡◌, ℕ, List, sym, ap, subst, ◌∙◌}
 use Rattle.ipa_text.specs.Lines.{lines_of, last_line}
+use Rattle.ipa_spec.specs.declared.names.Name.{Name}
 use Rattle.ipa_spec.specs.declared.specification.Specification.{Specification}
 use Rattle.ipa_logic.specs.declared.facts.Fact.{Fact}
 use Rattle.ipa_names.specs.Meaning.{specification_of}
 use Rattle.ipa_logic.specs.Facts.{has, IsStateOf}
 use Rattle.ipa_reader.specs.Setups.{size_list, IsSetup, IsRefusedAtEnd, IsKept}
+use Rattle.ipa_reader.specs.Fitting.{IsFitting}
 use Rattle.ipa_reader.specs.Soundness.{IsSoundStanding}
 use Rattle.ipa_reader.specs.Documents.{ReadsAs, IsRefused}
 use Rattle.ipa_reader.specs.Documents.IsRefused.{at_end}
@@ -17,6 +20,7 @@ use Rattle.ipa_reader.specs.Readings.{IsReadUpTo}
 use Rattle.ipa_reader.specs.declared.document.Document.{Document}
 use Rattle.ipa_reader.specs.declared.refusals.DocKind.{DocKind}
 use Rattle.ipa_reader.specs.declared.standing.Standing.{Standing}
+use Rattle.ipa_reader.proofs.SoundFitting.{fitting}
 
 -- a document made of what stands behind all lines
 pub record IsMadeOf (s : Standing) (document : Document) : Type 0 where
@@ -66,3 +70,9 @@ setup_fits s sizes h e = record {
   session_replicas = h.placed.at_replicas.at;
   requests = h.requests;
 }
+
+pub setup_fitting : (s : Standing) (spec : Specification) (sizes : List ℕ) (elements : List (List Name)) (base : List Fact) → IsSoundStanding s → spec ≡ specification_of s.declared → sizes ≡ size_list s.arranged.elements → elements ≡ s.arranged.elements → IsStateOf (has s.arranged.facts) base → IsFitting spec sizes elements base s.arranged.sessions
+setup_fitting s spec sizes elements base h named e same state =
+    subst (λ es. IsFitting spec sizes es base s.arranged.sessions) (sym same)
+    (subst (λ all. IsFitting spec all s.arranged.elements base s.arranged.sessions) (sym e)
+    (subst (λ x. IsFitting x (size_list s.arranged.elements) s.arranged.elements base s.arranged.sessions) (sym named) (fitting s base h state)))

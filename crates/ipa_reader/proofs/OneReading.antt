@@ -8,7 +8,7 @@ use Rattle.std.specs.List.{slice_get}
 use Rattle.std.proofs.lemmas.Bool.{cases_order}
 use Rattle.std.proofs.lemmas.List.{take-take}
 use Rattle.std.proofs.lemmas.Option.{same_Some}
-use mathlib.Core.HLevel.{Σ_prop_path}
+use mathlib.Core.HLevel.{Σ_prop_path, ×_prop}
 use Rattle.ipa_spec.specs.FoundLaws.{at_take}
 use Rattle.ipa_spec.specs.declared.names.Name.{Name}
 use Rattle.ipa_spec.specs.declared.specification.Specification.{Specification}
@@ -21,6 +21,8 @@ use Rattle.ipa_names.specs.Meaning.{specification_of}
 use Rattle.ipa_reader.specs.Standings.{standing_of}
 use Rattle.ipa_reader.specs.Setups.{IsSetup, IsKept, IsRefusedAtEnd}
 use Rattle.ipa_reader.specs.SetupLaws.{IsSetup-prop, IsKept-prop}
+use Rattle.ipa_reader.specs.Fitting.{IsFitting}
+use Rattle.ipa_reader.specs.FittingLaws.{IsFitting-prop}
 use Rattle.ipa_reader.specs.Documents.{SayEach, AreAccepted, IsDocumentOf, ReadsAs, IsRefusedLine, IsRefusedAtLine, IsRefusedBase, IsRefused}
 use Rattle.ipa_reader.specs.Documents.IsRefused.{at_line, at_end}
 use Rattle.ipa_reader.specs.declared.document.Document.{Document}
@@ -44,11 +46,18 @@ same_setup s t u e b r w =
     let pairs : ◌≡◌ {A = (v : Parts) × Fits v} ((s.universe, s.elements, s.base, s.replicas, s.sessions), s.fits) ((t.universe, t.elements, t.base, t.replicas, t.sessions), t.fits) = Σ_prop_path (λ v. IsSetup-prop v.0.sizes v.1 v.3 v.4) parts in
     λ i. record { universe = (pairs i).0.0; elements = (pairs i).0.1; base = (pairs i).0.2; replicas = (pairs i).0.3; sessions = (pairs i).0.4; fits = (pairs i).1 }
 
+-- what a document keeps
+abbrev Promises : Specification × Setup → Type 0
+Promises v = IsKept v.0 v.1.universe.sizes v.1.base × IsFitting v.0 v.1.universe.sizes v.1.elements v.1.base v.1.sessions
+
+Promises-prop : (v : Specification × Setup) → IsProp (Promises v)
+Promises-prop v = ×_prop (IsKept-prop v.0 v.1.universe.sizes v.1.base) (IsFitting-prop v.0 v.1.universe.sizes v.1.elements v.1.base v.1.sessions)
+
 same_document : (d e : Document) → d.spec ≡ e.spec → d.setup ≡ e.setup → d ≡ e
 same_document d e s t =
     let parts : ◌≡◌ {A = Specification × Setup} (d.spec, d.setup) (e.spec, e.setup) = λ i. (s i, t i) in
-    let pairs : ◌≡◌ {A = (v : Specification × Setup) × IsKept v.0 v.1.universe.sizes v.1.base} ((d.spec, d.setup), d.kept) ((e.spec, e.setup), e.kept) = Σ_prop_path (λ v. IsKept-prop v.0 v.1.universe.sizes v.1.base) parts in
-    λ i. record { spec = (pairs i).0.0; setup = (pairs i).0.1; kept = (pairs i).1 }
+    let pairs : ◌≡◌ {A = (v : Specification × Setup) × Promises v} ((d.spec, d.setup), (d.kept, d.fitting)) ((e.spec, e.setup), (e.kept, e.fitting)) = Σ_prop_path (λ v. Promises-prop v) parts in
+    λ i. record { spec = (pairs i).0.0; setup = (pairs i).0.1; kept = (pairs i).1.0; fitting = (pairs i).1.1 }
 
 -- the document that some lines give
 document_one : (forms : List Form) (d e : Document) → IsDocumentOf forms d → IsDocumentOf forms e → d ≡ e

@@ -2,7 +2,6 @@
 --
 --   sound_standing      what stands behind accepted lines is sound
 --   document_faultless  so the specification that they declare has no fault
---   document_fits       and what is set up fits it
 use Rattle.std.proofs.Common.{◌≡◌, ℕ, List, [], ◌∷◌, ◌++◌, length, take, None, refl, sym, ap, subst, ◌∙◌, append_assoc, append-nil, arith}
 use Rattle.std.proofs.lemmas.List.{take-append-le, take_all}
 use Rattle.ipa_spec.specs.Limits.{fault_of, IsFaultless}
@@ -20,9 +19,6 @@ use Rattle.ipa_names.specs.declared.declared.Declared.{Declared}
 use Rattle.ipa_reader.specs.declared.document.Document.{Document}
 use Rattle.ipa_reader.specs.StandingLaws.{standing_of-push}
 use Rattle.ipa_reader.proofs.SoundNext.{sound_next}
-use Rattle.ipa_reader.proofs.SoundFitting.{fitting}
-use Rattle.ipa_reader.specs.Fitting.{IsFitting}
-use Rattle.ipa_reader.specs.Setups.{size_list}
 use Rattle.ipa_reader.specs.declared.standing.Standing.{Standing}
 
 no_parts : {X : Type 0} (name_of : X → Name) (most : ℕ) (P : X → Type 0) → AreSoundParts name_of most P []
@@ -61,14 +57,3 @@ pub document_faultless : ((d : Declared) → IsSound d → fault_of (specificati
 document_faultless faultless bytes document reads = record {
   none = ap fault_of reads.document_is.spec ∙ faultless (standing_of reads.forms).declared (sound_standing reads.forms reads.accepted).declared;
 }
-
-pub document_fits : (bytes : List ℕ) (document : Document) → ReadsAs bytes document →
-    IsFitting document.spec document.setup.universe.sizes document.setup.elements document.setup.base document.setup.sessions
-document_fits bytes document reads =
-    let s : Standing = standing_of reads.forms in
-    let is = reads.document_is in
-    let fits = fitting s document.setup.base (sound_standing reads.forms reads.accepted) is.base in
-    let spec = subst (λ spec. IsFitting spec (size_list s.arranged.elements) s.arranged.elements document.setup.base s.arranged.sessions) (sym is.spec) fits in
-    let sizes = subst (λ sizes. IsFitting document.spec sizes s.arranged.elements document.setup.base s.arranged.sessions) (sym is.universe) spec in
-    let elements = subst (λ es. IsFitting document.spec document.setup.universe.sizes es document.setup.base s.arranged.sessions) (sym is.elements) sizes in
-    subst (λ sessions. IsFitting document.spec document.setup.universe.sizes document.setup.elements document.setup.base sessions) (sym is.sessions) elements

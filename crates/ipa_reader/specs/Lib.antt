@@ -10,3 +10,4 @@ pub mod Readings
 pub mod StandingLaws
 pub mod RefusalLaws
 pub mod Fitting
+pub mod FittingLaws

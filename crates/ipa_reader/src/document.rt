@@ -1,4 +1,6 @@
 //! Documents: a specification, and the setup that a run of it begins with.
+ghost use Rattle.ipa_reader.specs.Fitting.{IsFitting};
+ghost use Rattle.ipa_reader.specs.FittingLaws.{IsFitting-prop};
 ghost use Rattle.ipa_reader.specs.Setups.{IsSetup, IsKept};
 ghost use Rattle.ipa_reader.specs.SetupLaws.{IsSetup-prop, IsKept-prop};
 
@@ -22,7 +24,7 @@ pub struct Setup {
     pub ghost fits: { IsSetup universe.sizes elements replicas sessions } by { IsSetup-prop universe.sizes elements replicas sessions },
 }
 
-/// A document: a specification and its setup, whose base keeps all clauses and bounds.
+/// A document: a specification and its setup, which fits the specification, and whose base keeps all clauses and bounds.
 #[derive(Drop)]
 pub struct Document {
     /// The specification.
@@ -30,4 +32,5 @@ pub struct Document {
     /// The setup.
     pub setup: Setup,
     pub ghost kept: { IsKept spec setup.universe.sizes setup.base } by { IsKept-prop spec setup.universe.sizes setup.base },
+    pub ghost fitting: { IsFitting spec setup.universe.sizes setup.elements setup.base setup.sessions } by { IsFitting-prop spec setup.universe.sizes setup.elements setup.base setup.sessions },
 }

@@ -1,8 +1,15 @@
 //! Laws on documents. These functions do nothing: what they ensure is the law.
 ghost use Rattle.std.specs.Prelude.{◌≡◌, ℕ, List};
 ghost use Rattle.ipa_spec.specs.Limits.{IsFaultless};
-ghost use Rattle.ipa_reader.specs.Documents.{ReadsAs, IsRefused};
-ghost use Rattle.ipa_reader.specs.Setups.{IsSetup, IsKept};
+ghost use Rattle.ipa_forms.specs.declared.forms.Form.{Form};
+ghost use Rattle.ipa_reader.specs.Documents.{ReadsAs, AreAccepted, IsRefused};
+ghost use Rattle.ipa_logic.specs.Facts.{has, IsStateOf};
+ghost use Rattle.ipa_logic.specs.declared.facts.Fact.{Fact};
+ghost use Rattle.ipa_names.specs.Meaning.{specification_of};
+ghost use Rattle.ipa_reader.specs.Setups.{size_list, IsSetup, IsKept};
+ghost use Rattle.ipa_reader.specs.declared.standing.Standing.{Standing};
+ghost use Rattle.ipa_reader.specs.Soundness.{IsSoundStanding};
+ghost use Rattle.ipa_reader.specs.Standings.{standing_of};
 ghost use Rattle.ipa_reader.specs.Fitting.{IsFitting};
 ghost use Rattle.ipa_reader.specs.declared.document.Document.{Document};
 ghost use Rattle.ipa_reader.specs.declared.document.Setup.{Setup};
@@ -26,6 +33,14 @@ pub fn one_reading()
 pub fn kept_by_type()
     ensures setup { (s : Setup) → IsSetup s.universe.sizes s.elements s.replicas s.sessions }
     ensures base { (d : Document) → IsKept d.spec d.setup.universe.sizes d.setup.base }
+    ensures fitting { (d : Document) → IsFitting d.spec d.setup.universe.sizes d.setup.elements d.setup.base d.setup.sessions }
+{}
+
+/// What stands behind lines of which none is refused keeps all limits, and what is set up there fits what is declared.
+pub fn standing_is_sound()
+    ensures sound { (forms : List Form) → AreAccepted forms → IsSoundStanding (standing_of forms) }
+    ensures fitting { (s : Standing) (base : List Fact) → IsSoundStanding s → IsStateOf (has s.arranged.facts) base →
+        IsFitting (specification_of s.declared) (size_list s.arranged.elements) s.arranged.elements base s.arranged.sessions }
 {}
 
 /// The specification of a document has no fault.

@@ -28,7 +28,9 @@ mod sessions;
 mod standing;
 
 pub use document::{Document, Setup};
-pub use document_laws::{document_faultless, document_fits, kept_by_type, one_reading};
+pub use document_laws::{
+    document_faultless, document_fits, kept_by_type, one_reading, standing_is_sound,
+};
 pub use element_lists::element_index;
 pub use names::Names;
 pub use order::Place;

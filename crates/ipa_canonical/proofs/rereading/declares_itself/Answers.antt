@@ -7,6 +7,6 @@ use Rattle.ipa_canonical.proofs.PartsBack.{specification_back}
 use Rattle.ipa_canonical.proofs.rereading.declares_itself.Goals as goal
 
 pub returns : goal.returns
-returns c = λ s h shaped none.
+returns c = λ s h.
     ap specification_of (declared_named s)
-    ∙ specification_back s (IsFit-from_faultless s h) (parts_of-faultless s h) shaped none (same_names c.one_form.ensures c.reads_back.ensures.form)
+    ∙ specification_back s (IsFit-from_faultless s h.faultless) (parts_of-faultless s h.faultless) h.shaped h.named (same_names c.one_form.ensures c.reads_back.ensures.form)

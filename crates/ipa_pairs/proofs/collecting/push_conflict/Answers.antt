@@ -7,6 +7,7 @@ use Rattle.ipa_pairs.specs.Triples.{triple}
 use Rattle.ipa_pairs.specs.Examples.{IsReportedExample}
 use Rattle.ipa_pairs.specs.Analyses.{triple_of, IsInConflict}
 use Rattle.ipa_pairs.specs.declared.analysis.Conflict.{Conflict as Example}
+use Rattle.ipa_pairs.proofs.BreakableLemmas.{unbroken}
 use Rattle.ipa_pairs.proofs.CollectLemmas.{extends-nothing, extends-one}
 use Rattle.ipa_pairs.proofs.collecting.push_conflict.Goals as goal
 
@@ -34,3 +35,11 @@ returns-in-None c =
       extends = extends-nothing triple_of (triple_key s) (IsReportedExample s) (IsInConflict s) (λ u. u ≡ t) c.args.conflicts.now
           (λ u e there. none (subst (IsInConflict s) e there));
     }
+
+pub returns-then-not-breakable-number-clause-extends : goal.returns-then-not-breakable-number-clause-extends
+returns-then-not-breakable-number-clause-extends c =
+    let s = c.args.spec.now in
+    let t = triple c.args.left c.args.right c.args.number in
+    extends-nothing triple_of (triple_key s) (IsReportedExample s) (IsInConflict s) (λ u. u ≡ t) c.args.conflicts.now
+    (λ u e there. unbroken s c.args.left c.args.right c.args.number c.args.breakable.now c.requires.breakable c.if-not-breakable-number.true
+    (c.conflicts_are_live.ensures s) (subst (IsInConflict s) e there))

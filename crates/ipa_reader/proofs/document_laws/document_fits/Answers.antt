@@ -1,5 +1,4 @@
-use Rattle.ipa_reader.proofs.SoundDocuments.{document_fits}
 use Rattle.ipa_reader.proofs.document_laws.document_fits.Goals as goal
 
 pub returns : goal.returns
-returns c = document_fits
+returns c = λ bytes document reads. document.fitting
