@@ -2,6 +2,7 @@
 --
 --   Those-append, Those-all, Those-same   of two lists after each other; P holds of all; there is one choice
 --   AreThose-all, AreThose-same           the same
+--   AreThose-none                         none are chosen where P holds of none
 --   gains-nothing, gains-taken, gains-passed   of no item, of one that is chosen, and of one that is not
 --   gains-both                            of two lists
 --   gains-start, gains-more               of what each of some numbers gives
@@ -48,6 +49,15 @@ AreThose-all P xs ys a = Those-all P xs ys a.those
 -- there is one choice
 pub AreThose-same : {X : Type 0} (P : X → Type 0) (xs ys zs : List X) → AreThose P xs ys → AreThose P xs zs → ys ≡ zs
 AreThose-same P xs ys zs a b = Those-same P xs ys zs a.those b.those
+
+Those-none : {X : Type 0} (P : X → Type 0) (xs : List X) → ((x : X) → P x → ⊥) → Those P xs []
+unfolding Those
+Those-none P [] none = refl
+Those-none P (x ∷ xs) none = inr (record { fails = none x; are = Those-none P xs none })
+
+-- none are chosen where P holds of none
+pub AreThose-none : {X : Type 0} (P : X → Type 0) (xs : List X) → ((x : X) → P x → ⊥) → AreThose P xs []
+AreThose-none P xs none = record { those = Those-none P xs none }
 
 pub gains-nothing : {X : Type 0} (P : X → Type 0) (old : List X) → Gains P [] old old
 unfolding Those

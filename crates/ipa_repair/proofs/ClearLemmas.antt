@@ -3,8 +3,8 @@
 --   length-with_effect         there are as many operations as before
 --   count-applied              and as many bounds
 --   action-kept                an action stays declared
---   unclear-faulty, unclear-forth   the set does not clear the pair
---   clear-back                 whether it does, by the pair in the other order
+--   unclear-faulty, clear_by   whether the set clears the pair
+--   apart_at, not_apart, apart_itself, apart_both   whether two actions are apart both ways
 --   one_taken, one_passed      a candidate that clears the pair alone, and one that does not
 --   two_passed-alone, two_passed, two_taken   two of which one clears it alone, that do not, and that do
 --   two_at-none, two_at-some   the sets of two in two places
@@ -27,7 +27,9 @@ use Rattle.ipa_spec.specs.declared.operations.Action.{Action}
 use Rattle.ipa_spec.specs.declared.operations.Action.TheVariants.{Op, Drop}
 use Rattle.ipa_repair.specs.Applying.{applied, applied_one, with_effect}
 use Rattle.ipa_repair.specs.Chosen.{Gains}
-use Rattle.ipa_repair.specs.Offers.{IsApart, Clears, IsClearing, ClearsAsTwo, offer_of, two_with, two_at}
+use Rattle.ipa_pairs.specs.Analyses.{IsApart}
+use Rattle.ipa_repair.specs.Candidates.{same_action}
+use Rattle.ipa_repair.specs.Offers.{IsApartBothWays, Clears, IsClearing, ClearsAsTwo, offer_of, two_with, two_at}
 use Rattle.ipa_repair.specs.Trying.{IsTold, tried_of}
 use Rattle.ipa_repair.specs.Greedy.{pair, pair_if, action_at}
 use Rattle.ipa_repair.specs.declared.candidates.Candidate.{Candidate}
@@ -36,6 +38,7 @@ use Rattle.ipa_repair.specs.declared.candidates.Offer.{Offer}
 use Rattle.ipa_repair.specs.declared.trying.Tried.{Tried}
 use Rattle.ipa_repair.proofs.ChosenLemmas.{gains-taken, gains-passed}
 use Rattle.ipa_repair.proofs.GreedyLemmas.{get_at}
+use Rattle.ipa_repair.proofs.ShownLemmas.{same_action-true}
 
 length-with_effect : (os : List Operation) (n : ℕ) (e : Effect) → length (with_effect os n e) ≡ length os
 length-with_effect os n e = at (slice_get os n)
@@ -72,20 +75,35 @@ module _ (s : Specification) (left right : Action) (parts : List Candidate) wher
   pub unclear-faulty : (IsFaultless (applied s parts) → ⊥) → Clears s left right parts → ⊥
   unclear-faulty none h = none h.faultless
 
-  -- the pair is not apart in its order
-  pub unclear-forth : (next : Specification) → next ≡ applied s parts → (IsApart next left right → ⊥) → Clears s left right parts → ⊥
-  unclear-forth next e none h = none (subst (λ x. IsApart x left right) (sym e) h.forth)
-
-  -- the pair is apart in its order, and it is told whether it is in the other one
-  pub clear-back : (next : Specification) (b : Bool) → next ≡ applied s parts → IsFaultless (applied s parts) → IsApart next left right →
-      MatchBool b (IsApart next right left) (IsApart next right left → ⊥) →
+  -- they do, and it is told whether the pair is apart both ways afterwards
+  pub clear_by : (next : Specification) (b : Bool) → next ≡ applied s parts → IsFaultless (applied s parts) →
+      MatchBool b (IsApartBothWays next left right) (IsApartBothWays next left right → ⊥) →
       MatchBool b (Clears s left right parts) (Clears s left right parts → ⊥)
-  clear-back next true e f forth back = record {
-    faultless = f;
-    forth = subst (λ x. IsApart x left right) e forth;
-    back = subst (λ x. IsApart x right left) e back;
-  }
-  clear-back next false e f forth none = λ h. none (subst (λ x. IsApart x right left) (sym e) h.back)
+  clear_by next true e f h = record { faultless = f; apart = subst (λ x. IsApartBothWays x left right) e h }
+  clear_by next false e f none = λ h. none (subst (λ x. IsApartBothWays x left right) (sym e) h.apart)
+
+-- two actions are apart one way, or not both ways, as it is told of a specification that is this one
+pub apart_at : (s found : Specification) (left right : Action) (b : Bool) → found ≡ s → b ≡ true →
+    MatchBool b (IsApart found left right) (IsApart found left right → ⊥) → IsApart s left right
+apart_at s found left right b is t h =
+    subst (λ x. IsApart x left right) is (MatchBool-at_true (IsApart found left right) (IsApart found left right → ⊥) t h)
+
+pub not_apart : (s found : Specification) (left right : Action) (b : Bool) → found ≡ s → b ≡ false →
+    MatchBool b (IsApart found left right) (IsApart found left right → ⊥) → IsApartBothWays s left right → ⊥
+not_apart s found left right b is t h both =
+    MatchBool-at_false (IsApart found left right) (IsApart found left right → ⊥) t h (subst (λ x. IsApart x left right) (sym is) both.forth)
+
+-- an action and itself are apart both ways where they are one way
+pub apart_itself : (s : Specification) (left right : Action) → same_action left right ≡ true → IsApart s left right → IsApartBothWays s left right
+apart_itself s left right e h =
+    let same = same_action-true left right e in
+    record { forth = h; back = subst (λ x. IsApart s right x) (sym same) (subst (λ x. IsApart s x right) same h) }
+
+-- whether they are the other way tells it of both
+pub apart_both : (s : Specification) (left right : Action) (b : Bool) → IsApart s left right → MatchBool b (IsApart s right left) (IsApart s right left → ⊥) →
+    MatchBool b (IsApartBothWays s left right) (IsApartBothWays s left right → ⊥)
+apart_both s left right true h back = record { forth = h; back = back }
+apart_both s left right false h none = λ both. none both.back
 
 module _ (s : Specification) (left right : Action) where
   -- the candidate clears the pair alone, or it does not

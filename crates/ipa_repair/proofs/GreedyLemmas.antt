@@ -7,7 +7,6 @@
 --   Reaches-start, Reaches-more   no step, and one more
 --   offers-faultless       each offer can be applied
 --   all_conflict           the pairs that conflict do
---   lessens_refused        an offer that leads to a triple that is too wide
 --   taken_from, first_taken, step_from   the step of a pair, of the first that has one, and of the specification
 --   first_taken_at, earlier_more_at      the same at the item that is read in a place
 --   going_on               the steps go on with the step that was taken
@@ -20,11 +19,7 @@ use Rattle.std.proofs.lemmas.List.Elements.{All-nil, All-cons, All-head, All-tai
 use Rattle.ipa_spec.specs.Limits.{IsFaultless}
 use Rattle.ipa_spec.specs.declared.specification.Specification.{Specification}
 use Rattle.ipa_spec.specs.declared.operations.Action.{Action}
-use Rattle.ipa_pairs.specs.Width.{Triple, IsNarrow, IsDeclared, IsFirstTooWide}
-use Rattle.ipa_pairs.specs.Triples.{triple}
-use Rattle.ipa_pairs.specs.Analyses.{IsPairFault}
-use Rattle.ipa_pairs.specs.declared.analysis.PairFault.{PairFault}
-use Rattle.ipa_pairs.specs.declared.analysis.PairFault.TheVariants.{TooWide}
+use Rattle.ipa_pairs.specs.Width.{IsNarrow, IsDeclared}
 use Rattle.ipa_repair.specs.Applying.{applied}
 use Rattle.ipa_repair.specs.Candidates.{candidates_of}
 use Rattle.ipa_repair.specs.Offers.{AreOffers, IsClearing, ClearsAsTwo, alone, twos}
@@ -84,10 +79,8 @@ module _ (s next : Specification) (parts : List Candidate) (leads : next ≡ app
       (subst (λ x. AreConflicting x after) leads are_after) in
       omega (arith, h.fewer, ap length same_before, ap length same_after, not_fewer)
 
-  pub lessens-wide : (t : Triple) (count : ℕ) → IsFirstTooWide next (IsDeclared next) t count → Lessens s parts → ⊥
-  lessens-wide t count wide h =
-      let narrow = subst (λ x. IsNarrow x (IsDeclared x)) (sym leads) h.narrow in
-      narrow.narrow t wide.in_question wide.too_wide
+  pub lessens-wide : (IsNarrow next (IsDeclared next) → ⊥) → Lessens s parts → ⊥
+  lessens-wide wide h = wide (subst (λ x. IsNarrow x (IsDeclared x)) (sym leads) h.narrow)
 
 -- no step
 pub Reaches-start : (s : Specification) → Reaches s [] s
@@ -128,12 +121,6 @@ offers-faultless s left right offers a =
 -- the pairs that conflict do
 pub all_conflict : (s : Specification) (pairs : List Pair) → AreConflicting s pairs → All (PairConflicts s) pairs
 all_conflict s pairs a = AreThose-all (PairConflicts s) (pairs_of s) pairs a
-
-module _ (s next : Specification) (parts : List Candidate) where
-  -- what the offer leads to is refused
-  pub lessens_refused : next ≡ applied s parts → (l r : Action) (k n : ℕ) (fault : PairFault) → fault ≡ TooWide l r k n →
-      IsPairFault next (IsDeclared next) fault → Lessens s parts → ⊥
-  lessens_refused leads l r k n fault e h = lessens-wide s next parts leads (triple l r k) n (subst (IsPairFault next (IsDeclared next)) e h)
 
 -- the step that applies the first offer
 pub taken_from : (s : Specification) (pairs : List Pair) (p : Pair) (offers slice : List Offer) (a : Applied) → slice ≡ offers →

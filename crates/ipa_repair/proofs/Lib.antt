@@ -3,6 +3,9 @@ mod Growing
 mod ApplyLemmas
 mod ChosenLemmas
 mod ShownLemmas
+mod AllClashesLemmas
 mod ClearLemmas
 mod GreedyLemmas
 mod OneRepairLemmas
+mod LocalLemmas
+mod ChangeLemmas

@@ -3,17 +3,19 @@
 --   Law s             conflicts on patterns are conflicts
 --   All-at            what holds of all holds of the one in a place
 --   found_at          where a test passes for one, it stands in a place
---   same_action-true, same_action-from   the test that two actions are the same
+--   same_action-true, same_action-same   the test that two actions are the same
 --   listed_conflict   an example is of a conflict
---   told_pair-first, told_pair-second       whether two actions conflict on some clause, in some order
---   told_clause-first, told_clause-second   whether they do on this clause
---   apart_told        whether an ordered pair is apart
---   apart_refused     it is not where a triple of it is too wide
+--   triples_more      the triples of one more example
+--   clashes-from_report   the triples of all examples are those in conflict
+--   told_on           whether two actions conflict on a clause, in this order
+--   told_pair-first, told_pair-second       whether they do on some clause, in some order
+--   told_clause-first, told_clause-second   whether they do on this clause, in some order
 --   narrow_refused    no triple is too wide where none is
-use Rattle.std.proofs.Common.{◌≡◌, ◌==◌, ℕ, Bool, true, false, ◌||◌, List, [], ◌∷◌, length, Some, MatchBool, refl, sym, ap, ◌∙◌, subst, inl, inr, suc}
+use Rattle.std.proofs.Common.{◌≡◌, ◌==◌, ℕ, Bool, true, false, ◌||◌, ◌&&◌, ◌+◌, ◌<◌, List, [], ◌∷◌, ◌++◌, map, take, length, get_or, Some, MatchBool, refl, sym, ap, ◌∙◌, subst, inl, inr, zero, suc}
 use Rattle.std.specs.List.{All, list_any, slice_get}
 use Rattle.std.proofs.lemmas.Bool.{and_parts, and_from, false≢true, eqb-true, eq-eqb}
-use Rattle.std.proofs.lemmas.Option.{slice_get_within, get_or_from_slice_get}
+use Rattle.std.proofs.lemmas.Option.{same_Some, slice_get_within, get_or_from_slice_get}
+use Rattle.std.proofs.lemmas.List.{map_more}
 use Rattle.std.proofs.lemmas.List.Elements.{All-get_or}
 use Rattle.ipa_spec.specs.Actions.{IsAction}
 use Rattle.ipa_spec.specs.FoundLaws.{list_any-false}
@@ -23,19 +25,19 @@ use Rattle.ipa_spec.specs.declared.operations.Action.{Action}
 use Rattle.ipa_spec.specs.declared.operations.Action.TheVariants.{Op, Drop}
 use Rattle.ipa_logic.specs.Conflicts.{Conflict}
 use Rattle.ipa_reduction.specs.Cases.{ConflictOn}
-use Rattle.ipa_pairs.specs.Width.{Triple, IsDeclared, IsOfPair, IsNarrow}
+use Rattle.ipa_ground.specs.Enumeration.{IsListed}
+use Rattle.ipa_ground.specs.ListLaws.{Listed-map}
+use Rattle.ipa_pairs.specs.Width.{Triple, IsDeclared, IsNarrow}
 use Rattle.ipa_pairs.specs.Triples.{triple}
 use Rattle.ipa_pairs.specs.Examples.{IsReportedExample}
-use Rattle.ipa_pairs.specs.Analyses.{triple_of, AreReported, IsPairAnalysis, IsPairFault, IsAcceptFault}
+use Rattle.ipa_pairs.specs.Analyses.{triple_of, AreReported, IsAcceptFault}
 use Rattle.ipa_pairs.specs.declared.analysis.Conflict.{Conflict as Example}
-use Rattle.ipa_pairs.specs.declared.analysis.PairFault.{PairFault}
-use Rattle.ipa_pairs.specs.declared.analysis.PairFault.TheVariants.{TooWide}
 use Rattle.ipa_pairs.specs.declared.analysis.AcceptFault.{AcceptFault}
 use Rattle.ipa_pairs.specs.declared.analysis.AcceptFault.TheVariants as refused
 use Rattle.ipa_repair.specs.Candidates.{same_action, Clashes}
-use Rattle.ipa_repair.specs.Offers.{IsApart}
-use Rattle.ipa_repair.specs.Showing.{is_of, is_on}
+use Rattle.ipa_repair.specs.Showing.{clash, clash_of, IsClash, AreClashes, is_of, is_on}
 use Rattle.ipa_repair.specs.Greedy.{pair, PairConflicts}
+use Rattle.ipa_repair.specs.declared.clashes.Clash.{Clash}
 
 -- what holds of all holds of the one in a place
 pub All-at : {X : Type 0} (P : X → Type 0) (xs : List X) → All P xs → (k : ℕ) (x : X) → slice_get xs k ≡ Some x → P x
@@ -59,7 +61,7 @@ found_at p (x ∷ xs) h = step (p x) refl (found_at p xs) h
         let later = rest h in
         record { place = suc later.place; item = later.item; there = later.there; passes = later.passes }
 
-same_action-true : (a b : Action) → same_action a b ≡ true → a ≡ b
+pub same_action-true : (a b : Action) → same_action a b ≡ true → a ≡ b
 same_action-true (Op m) (Op n) h = ap (λ k. Op k) (eqb-true m n h)
 same_action-true (Drop m) (Drop n) h = ap (λ k. Drop k) (eqb-true m n h)
 same_action-true (Op m) (Drop n) h = cc
@@ -69,8 +71,43 @@ same_action-same : (a : Action) → same_action a a ≡ true
 same_action-same (Op m) = eq-eqb m m refl
 same_action-same (Drop m) = eq-eqb m m refl
 
-same_action-from : (a b : Action) → a ≡ b → same_action a b ≡ true
-same_action-from a b e = subst (λ x. same_action a x ≡ true) e (same_action-same a)
+-- two actions conflict on some clause
+record SomeConflict (s : Specification) (left right : Action) : Type 0 where
+  clause : ℕ
+  conflict : Conflict s left right clause
+
+shown_pair : (s : Specification) (cs : List Clash) → AreClashes s cs → (left right : Action) → list_any (is_of left right) cs ≡ true → SomeConflict s left right
+shown_pair s cs a left right h =
+    let f = found_at (is_of left right) cs h in
+    let parts = and_parts (same_action f.item.left left) (same_action f.item.right right) f.passes in
+    let same : f.item ≡ clash left right f.item.clause =
+    λ i. clash (same_action-true f.item.left left parts.0 i) (same_action-true f.item.right right parts.1 i) f.item.clause in
+    record { clause = f.item.clause; conflict = subst (IsClash s) same (a.each f.place f.item f.there) }
+
+unshown_pair : (s : Specification) (cs : List Clash) → AreClashes s cs → (left right : Action) (k : ℕ) → list_any (is_of left right) cs ≡ false → Conflict s left right k → ⊥
+unshown_pair s cs a left right k e h =
+    let o = a.complete left right k h in
+    let no = list_any-false (is_of left right) cs e o.place (clash left right k) o.there in
+    let yes = and_from (same_action left left) (same_action right right) (same_action-same left) (same_action-same right) in
+    false≢true (sym no ∙ yes)
+
+-- what stands in a place of a mapped list
+record MappedAt {X Y : Type 0} (f : X → Y) (xs : List X) (k : ℕ) (y : Y) : Type 0 where
+  from : X
+  there : slice_get xs k ≡ Some from
+  is : f from ≡ y
+
+mapped_at : {X Y : Type 0} (f : X → Y) (xs : List X) (k : ℕ) (y : Y) → slice_get (map f xs) k ≡ Some y → MappedAt f xs k y
+mapped_at f [] k y e = cc
+mapped_at f (x ∷ xs) zero y e = record { from = x; there = refl; is = same_Some (f x) y e }
+mapped_at f (x ∷ xs) (suc k) y e =
+    let m = mapped_at f xs k y e in
+    record { from = m.from; there = m.there; is = m.is }
+
+-- the triples of the examples so far, and of the next one
+pub triples_more : (es : List Example) (cs next : List Clash) (x : Clash) (i : ℕ) (d : Example) → i < length es → next ≡ cs ++ x ∷ [] →
+    x ≡ clash_of (get_or es i d) → cs ≡ map clash_of (take i es) → next ≡ map clash_of (take (i + 1) es)
+triples_more es cs next x i d l e f h = e ∙ ((λ j. h j ++ f j ∷ []) ∙ sym (map_more clash_of es i d l))
 
 -- conflicts on patterns are conflicts
 abbrev pub Law : Specification → Type 0
@@ -94,106 +131,57 @@ module _ (s : Specification) (law : Law s) where
     clause = slice_get_within s.clauses k h.clause h.declared;
   }
 
-  record SomeConflict (left right : Action) : Type 0 where
-    clause : ℕ
-    conflict : Conflict s left right clause
-
-  module _ (es : List Example) (a : AreReported s (IsDeclared s) es) where
-    shown : (left right : Action) → list_any (is_of left right) es ≡ true → SomeConflict left right
-    shown left right h =
-        let f = found_at (is_of left right) es h in
-        let parts = and_parts (same_action f.item.left left) (same_action f.item.right right) f.passes in
-        let same : triple_of f.item ≡ triple left right f.item.clause =
-        λ i. triple (same_action-true f.item.left left parts.0 i) (same_action-true f.item.right right parts.1 i) f.item.clause in
-        record {
-          clause = f.item.clause;
-          conflict = subst (λ (t : Triple). Conflict s t.left t.right t.clause) same
-              (listed_conflict (IsDeclared s) es a (λ t d. d) f.place f.item f.there);
-        }
-
-    unshown : (left right : Action) (k : ℕ) → list_any (is_of left right) es ≡ false → Conflict s left right k → ⊥
-    unshown left right k f h =
+  -- the triples of all examples are those in conflict
+  pub clashes-from_report : (es : List Example) (cs : List Clash) → cs ≡ map clash_of es → AreReported s (IsDeclared s) es → AreClashes s cs
+  clashes-from_report es cs is a = subst (AreClashes s) (sym is) (record {
+    each = λ k c e.
+        let m = mapped_at clash_of es k c e in
+        subst (IsClash s) m.is (listed_conflict (IsDeclared s) es a (λ t d. d) k m.from m.there);
+    complete = λ left right k h.
         let o = a.complete (triple left right k) (conflict_declared left right k h) h in
-        let no = list_any-false (is_of left right) es f o.listed.place o.example o.listed.there in
-        let yes =
-        and_from (same_action o.example.left left) (same_action o.example.right right)
-        (same_action-from o.example.left left (ap (λ (t : Triple). t.left) o.is))
-        (same_action-from o.example.right right (ap (λ (t : Triple). t.right) o.is)) in
-        false≢true (sym no ∙ yes)
+        subst (λ (t : Triple). IsListed (map clash_of es) (clash t.left t.right t.clause)) o.is (Listed-map clash_of es o.example o.listed);
+  })
 
-    shown_on : (left right : Action) (k : ℕ) → list_any (is_on left right k) es ≡ true → Conflict s left right k
-    shown_on left right k h =
-        let f = found_at (is_on left right k) es h in
-        let both = and_parts (is_of left right f.item) (f.item.clause == k) f.passes in
-        let parts = and_parts (same_action f.item.left left) (same_action f.item.right right) both.0 in
-        let same : triple_of f.item ≡ triple left right k =
-        λ i. triple (same_action-true f.item.left left parts.0 i) (same_action-true f.item.right right parts.1 i)
-        (eqb-true f.item.clause k both.1 i) in
-        subst (λ (t : Triple). Conflict s t.left t.right t.clause) same
-        (listed_conflict (IsDeclared s) es a (λ t d. d) f.place f.item f.there)
+module _ (s : Specification) (cs : List Clash) (a : AreClashes s cs) where
+  -- two actions conflict on a clause where a triple is of them
+  pub told_on : (left right : Action) (k : ℕ) (b : Bool) → b ≡ list_any (is_on left right k) cs →
+      MatchBool b (Conflict s left right k) (Conflict s left right k → ⊥)
+  told_on left right k true e =
+      let f = found_at (is_on left right k) cs (sym e) in
+      let both = and_parts (is_of left right f.item) (f.item.clause == k) f.passes in
+      let parts = and_parts (same_action f.item.left left) (same_action f.item.right right) both.0 in
+      let same : f.item ≡ clash left right k =
+      λ i. clash (same_action-true f.item.left left parts.0 i) (same_action-true f.item.right right parts.1 i)
+      (eqb-true f.item.clause k both.1 i) in
+      subst (IsClash s) same (a.each f.place f.item f.there)
+  told_on left right k false e = λ h.
+      let o = a.complete left right k h in
+      let no = list_any-false (is_on left right k) cs (sym e) o.place (clash left right k) o.there in
+      let yes =
+      and_from (same_action left left && same_action right right) (k == k)
+      (and_from (same_action left left) (same_action right right) (same_action-same left) (same_action-same right)) (eq-eqb k k refl) in
+      false≢true (sym no ∙ yes)
 
-    unshown_on : (left right : Action) (k : ℕ) → list_any (is_on left right k) es ≡ false → Conflict s left right k → ⊥
-    unshown_on left right k f h =
-        let o = a.complete (triple left right k) (conflict_declared left right k h) h in
-        let no = list_any-false (is_on left right k) es f o.listed.place o.example o.listed.there in
-        let yes =
-        and_from (is_of left right o.example) (o.example.clause == k)
-        (and_from (same_action o.example.left left) (same_action o.example.right right)
-        (same_action-from o.example.left left (ap (λ (t : Triple). t.left) o.is))
-        (same_action-from o.example.right right (ap (λ (t : Triple). t.right) o.is)))
-        (eq-eqb o.example.clause k (ap (λ (t : Triple). t.clause) o.is)) in
-        false≢true (sym no ∙ yes)
+  -- two actions conflict on some clause, in some order
+  pub told_pair-first : (left right : Action) → list_any (is_of left right) cs ≡ true → PairConflicts s (pair left right)
+  told_pair-first left right h = let some = shown_pair s cs a left right h in record { clause = some.clause; clashes = inl some.conflict }
 
-    -- two actions conflict on some clause in this order, or it is told by the other one whether they do
-    pub told_pair-first : (left right : Action) → list_any (is_of left right) es ≡ true → PairConflicts s (pair left right)
-    told_pair-first left right e = let some = shown left right e in record { clause = some.clause; clashes = inl some.conflict }
+  pub told_pair-second : (left right : Action) (b : Bool) → list_any (is_of left right) cs ≡ false → b ≡ list_any (is_of right left) cs →
+      MatchBool b (PairConflicts s (pair left right)) (PairConflicts s (pair left right) → ⊥)
+  told_pair-second left right true e f = let some = shown_pair s cs a right left (sym f) in record { clause = some.clause; clashes = inr some.conflict }
+  told_pair-second left right false e f = λ h. elim h.clashes as (λ _. ⊥) [
+    | inl forth ↦ unshown_pair s cs a left right h.clause e forth
+    | inr back ↦ unshown_pair s cs a right left h.clause (sym f) back
+  ]
 
-    pub told_pair-second : (left right : Action) (b : Bool) → list_any (is_of left right) es ≡ false → b ≡ list_any (is_of right left) es →
-        MatchBool b (PairConflicts s (pair left right)) (PairConflicts s (pair left right) → ⊥)
-    told_pair-second left right true e f = let some = shown right left (sym f) in record { clause = some.clause; clashes = inr some.conflict }
-    told_pair-second left right false e f = λ h. elim h.clashes as (λ _. ⊥) [
-      | inl forth ↦ unshown left right h.clause e forth
-      | inr back ↦ unshown right left h.clause (sym f) back
-    ]
+-- the same on a clause
+pub told_clause-first : (s : Specification) (left right : Action) (k : ℕ) → Conflict s left right k → Clashes s left right k
+told_clause-first s left right k h = inl h
 
-    -- the same on a clause
-    pub told_clause-first : (left right : Action) (k : ℕ) → list_any (is_on left right k) es ≡ true → Clashes s left right k
-    told_clause-first left right k e = inl (shown_on left right k e)
-
-    pub told_clause-second : (left right : Action) (k : ℕ) (b : Bool) → list_any (is_on left right k) es ≡ false → b ≡ list_any (is_on right left k) es →
-        MatchBool b (Clashes s left right k) (Clashes s left right k → ⊥)
-    told_clause-second left right k true e f = inr (shown_on right left k (sym f))
-    told_clause-second left right k false e f = λ h. elim h as (λ _. ⊥) [
-      | inl forth ↦ unshown_on left right k e forth
-      | inr back ↦ unshown_on right left k (sym f) back
-    ]
-
-  -- whether an ordered pair is apart
-  pub apart_told : (left right : Action) (es : List Example) → IsAction s left → IsAction s right → IsPairAnalysis s left right es →
-      (b : Bool) → b ≡ (length es == 0) → MatchBool b (IsApart s left right) (IsApart s left right → ⊥)
-  apart_told left right [] l r a true e = record {
-    narrow = a.narrow;
-    apart = λ k h.
-        let o = a.conflicts.complete (triple left right k) (record { left_is = refl; right_is = refl; clause_declared = slice_get_within s.clauses k h.clause h.declared }) h in
-        let there : slice_get [] o.listed.place ≡ Some o.example = o.listed.there in cc;
-  }
-  apart_told left right [] l r a false e = cc
-  apart_told left right (x ∷ es) l r a true e = let none : suc (length es) ≡ 0 = eqb-true _ _ (sym e) in cc
-  apart_told left right (x ∷ es) l r a false e = λ h.
-      let of = All-at (λ y. IsReportedExample s y × IsOfPair s left right (triple_of y)) (x ∷ es) a.conflicts.each 0 x refl in
-      let same : triple_of x ≡ triple left right x.clause = λ i. triple (of.1.left_is i) (of.1.right_is i) x.clause in
-      let declared : (t : Triple) → IsOfPair s left right t → IsDeclared s t =
-      λ t q. record { left = subst (IsAction s) (sym q.left_is) l; right = subst (IsAction s) (sym q.right_is) r; clause = q.clause_declared } in
-      h.apart x.clause
-      (subst (λ (t : Triple). Conflict s t.left t.right t.clause) same
-      (listed_conflict (IsOfPair s left right) (x ∷ es) a.conflicts declared 0 x refl))
-
--- a pair is not apart where a triple of it is too wide
-pub apart_refused : (s : Specification) (left right l r : Action) (k n : ℕ) (fault : PairFault) → fault ≡ TooWide l r k n →
-    IsPairFault s (IsOfPair s left right) fault → IsApart s left right → ⊥
-apart_refused s left right l r k n fault e h apart =
-    let wide = subst (IsPairFault s (IsOfPair s left right)) e h in
-    apart.narrow.narrow (triple l r k) wide.in_question wide.too_wide
+pub told_clause-second : (s : Specification) (left right : Action) (k : ℕ) (b : Bool) → (Conflict s left right k → ⊥) →
+    MatchBool b (Conflict s right left k) (Conflict s right left k → ⊥) → MatchBool b (Clashes s left right k) (Clashes s left right k → ⊥)
+told_clause-second s left right k true none h = inr h
+told_clause-second s left right k false none h = λ c. elim c as (λ _. ⊥) [ inl forth ↦ none forth | inr back ↦ h back ]
 
 -- no triple is too wide where none is
 pub narrow_refused : (s next : Specification) (l r : Action) (k n : ℕ) (fault : AcceptFault) → fault ≡ refused.TooWide l r k n →

@@ -3,6 +3,7 @@ pub mod Applying
 pub mod Candidates
 pub mod Offers
 pub mod Trying
-pub mod Showing
 pub mod Greedy
+pub mod Unchanged
+pub mod Showing
 pub mod Stepping

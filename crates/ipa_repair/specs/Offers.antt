@@ -1,6 +1,6 @@
 -- Offers: the candidates, and the sets of two, that clear a pair of actions.
 --
---   IsApart s left right       left and right are in conflict on no clause, and no triple of them is too wide
+--   IsApartBothWays s left right   left and right are apart, and right and left are
 --   Clears s left right parts  the candidates fit together, and afterwards the pair is apart in both orders
 --   alone cs                   each candidate as an offer of one
 --   twos cs                    the sets of two candidates, in lexicographic order of their places
@@ -13,26 +13,24 @@ use Rattle.std.specs.Option.{option_map_or}
 use Rattle.ipa_spec.specs.Limits.{IsFaultless}
 use Rattle.ipa_spec.specs.declared.specification.Specification.{Specification}
 use Rattle.ipa_spec.specs.declared.operations.Action.{Action}
-use Rattle.ipa_logic.specs.Conflicts.{Conflict}
 use Rattle.ipa_ground.specs.Enumeration.{numbers}
-use Rattle.ipa_pairs.specs.Width.{IsNarrow, IsOfPair}
+use Rattle.ipa_pairs.specs.Analyses.{IsApart}
 use Rattle.ipa_repair.specs.Chosen.{AreThose}
 use Rattle.ipa_repair.specs.Applying.{applied}
 use Rattle.ipa_repair.specs.Candidates.{AreReportedClauses, candidates_of}
 use Rattle.ipa_repair.specs.declared.candidates.Candidate.{Candidate}
 use Rattle.ipa_repair.specs.declared.candidates.Offer.{Offer}
 
--- left and right conflict on no clause, and no live triple of them is too wide
-pub record IsApart (s : Specification) (left right : Action) : Type 0 where
-  pub narrow : IsNarrow s (IsOfPair s left right)
-  pub apart : (k : ℕ) → Conflict s left right k → ⊥
+-- left and right are apart, and right and left are: they conflict on no clause, and no live triple of them is too wide
+pub record IsApartBothWays (s : Specification) (left right : Action) : Type 0 where
+  pub forth : IsApart s left right
+  pub back : IsApart s right left
 
 -- the candidates can be applied together, so that no fault arises and each operation has room, and afterwards neither
 -- order of the two actions conflicts on any clause or has a live triple that is too wide
 pub record Clears (s : Specification) (left right : Action) (parts : List Candidate) : Type 0 where
   pub faultless : IsFaultless (applied s parts)
-  pub forth : IsApart (applied s parts) left right
-  pub back : IsApart (applied s parts) right left
+  pub apart : IsApartBothWays (applied s parts) left right
 
 -- the offer of these parts
 abbrev pub offer_of : List Candidate → Offer

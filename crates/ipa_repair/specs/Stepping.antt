@@ -7,9 +7,9 @@
 use Rattle.std.specs.Prelude.{◌≡◌, ℕ, ◌<◌, suc, List, length, slice_get, Some}
 use Rattle.ipa_spec.specs.declared.specification.Specification.{Specification}
 use Rattle.ipa_pairs.specs.Width.{IsNarrow, IsDeclared}
-use Rattle.ipa_pairs.specs.Analyses.{AreReported}
 use Rattle.ipa_repair.specs.Applying.{applied}
 use Rattle.ipa_repair.specs.Greedy.{pair, AreConflicting, Lessens, LessensNothing, TakesOffer}
+use Rattle.ipa_repair.specs.Showing.{AreClashes}
 use Rattle.ipa_repair.specs.declared.candidates.Offer.{Offer}
 use Rattle.ipa_repair.specs.declared.pairs.Pair.{Pair}
 use Rattle.ipa_repair.specs.declared.greedy.Lessened.{Lessened}
@@ -19,7 +19,7 @@ use Rattle.ipa_repair.specs.declared.greedy.Taken.{Taken}
 -- the specification has no triple that is too wide, and fewer conflicting pairs than there were
 pub record IsFewer (pairs : List Pair) (l : Lessened) : Type 0 where
   pub narrow : IsNarrow l.next (IsDeclared l.next)
-  pub reported : AreReported l.next (IsDeclared l.next) l.conflicts
+  pub clashes_are : AreClashes l.next l.clashes
   pub are : AreConflicting l.next l.pairs
   pub fewer : length l.pairs < length pairs
 

@@ -1,12 +1,12 @@
 //! Whether a set of candidates clears a pair of actions.
 ghost use Rattle.std.specs.Prelude.{IfOk, MatchBool};
 ghost use Rattle.ipa_spec.specs.Actions.{IsAction};
-ghost use Rattle.ipa_repair.specs.Offers.{IsApart, Clears};
+ghost use Rattle.ipa_repair.specs.Offers.{IsApartBothWays, Clears};
 
 use crate::applying::apply_if_faultless;
 use crate::candidates::Candidate;
-use ipa_pairs::{PairFault, analyse_pair};
-use ipa_reduction::laws::conflicts_are_on_patterns;
+use crate::listing::same_action;
+use ipa_pairs::Search;
 use ipa_spec::{Action, Spec};
 use std::alloc::{AllocError, Global};
 
@@ -25,25 +25,22 @@ pub(crate) fn clears(
 {
     match apply_if_faultless(spec, parts)? {
         None => Ok(false),
-        Some(next) => {
-            if !is_apart(alloc, &next, left, right)? {
-                return Ok(false);
-            }
-            is_apart(alloc, &next, right, left)
-        }
+        Some(next) => are_apart(alloc, &next, left, right),
     }
 }
 
-// Whether left and right conflict on no clause, and no live triple of them is too wide.
-fn is_apart(alloc: Global, spec: &Spec, left: Action, right: Action) -> Result<bool, AllocError>
+// Whether the two are apart in both orders. The first conflict that is found ends the search.
+fn are_apart(alloc: Global, spec: &Spec, left: Action, right: Action) -> Result<bool, AllocError>
     requires left { IsAction spec.now left }
     requires right { IsAction spec.now right }
-    ensures { IfOk result (λ apart. MatchBool apart (IsApart spec.now left right) (IsApart spec.now left right → ⊥)) }
+    ensures { IfOk result (λ apart. MatchBool apart (IsApartBothWays spec.now left right) (IsApartBothWays spec.now left right → ⊥)) }
 {
-    conflicts_are_on_patterns();
-    match analyse_pair(alloc, spec, left, right) {
-        Ok(conflicts) => Ok(conflicts.is_empty()),
-        Err(PairFault::TooWide { .. }) => Ok(false),
-        Err(PairFault::NoMemory) => Err(AllocError),
+    let mut search = Search::new(alloc, spec);
+    if !search.is_apart(alloc, left, right)? {
+        return Ok(false);
     }
+    if same_action(left, right) {
+        return Ok(true);
+    }
+    search.is_apart(alloc, right, left)
 }

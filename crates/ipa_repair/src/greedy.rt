@@ -7,26 +7,29 @@ ghost use Rattle.std.specs.List.{All};
 ghost use Rattle.ipa_spec.specs.Limits.{IsFaultless};
 ghost use Rattle.ipa_spec.specs.declared.specification.Specification.{Specification};
 ghost use Rattle.ipa_pairs.specs.Width.{IsNarrow, IsDeclared};
-ghost use Rattle.ipa_pairs.specs.Analyses.{AreReported, IsPairFault};
+ghost use Rattle.ipa_pairs.specs.Analyses.{IsPairFault};
 ghost use Rattle.ipa_repair.specs.Applying.{applied};
 ghost use Rattle.ipa_repair.specs.Greedy.{AreConflicting, PairConflicts, LessensNothing, Lessens, Reaches, IsRepaired};
+ghost use Rattle.ipa_repair.specs.Showing.{AreClashes};
 ghost use Rattle.ipa_repair.specs.Stepping.{IsLessened, IsFirstLessened, IsTaken, IsFirstTaken};
 
 use crate::applying::apply;
 use crate::candidates::Offer;
+use crate::changing::clashes_after;
+use crate::clashes::{Clash, clashes_of};
 use crate::offering::offers_by;
 use crate::pairs::{Pair, conflicting_pairs};
 use crate::steps::{RepairStep, Repaired};
-use ipa_pairs::{AcceptFault, Conflict, PairFault, accept, analyse};
+use ipa_pairs::{AcceptFault, PairFault, accept, analyse};
 use ipa_spec::{List, Spec};
 use std::alloc::{AllocError, Global};
 use std::thread::Threads;
 
-/// A specification that an offer leads to, its conflicts, and its conflicting pairs.
+/// A specification that an offer leads to, its triples in conflict, and its conflicting pairs.
 #[derive(Drop)]
 pub(crate) struct Lessened {
     pub(crate) next: Spec,
-    pub(crate) conflicts: List<Conflict>,
+    pub(crate) clashes: List<Clash>,
     pub(crate) pairs: List<Pair>,
 }
 
@@ -55,8 +58,9 @@ pub fn repair(rt: &(impl Threads + Sync), alloc: Global, spec: Spec) -> Result<R
     ensures fault { IfErr result (IsPairFault spec (IsDeclared spec)) }
 {
     let analysis = analyse(rt, alloc, &spec)?;
-    let pairs = conflicting_pairs(alloc, &spec, analysis.conflicts.as_slice())?;
-    let repaired = repaired_from(rt, alloc, spec, analysis.conflicts, pairs, List::new(alloc))?;
+    let clashes = clashes_of(alloc, &spec, analysis.conflicts.as_slice())?;
+    let pairs = conflicting_pairs(alloc, &spec, clashes.as_slice())?;
+    let repaired = repaired_from(rt, alloc, spec, clashes, pairs, List::new(alloc))?;
     Ok(repaired)
 }
 
@@ -65,25 +69,25 @@ fn repaired_from(
     rt: &(impl Threads + Sync),
     alloc: Global,
     spec: Spec,
-    conflicts: List<Conflict>,
+    clashes: List<Clash>,
     pairs: List<Pair>,
     steps: List<RepairStep>,
 ) -> Result<Repaired, AllocError>
     requires narrow { IsNarrow spec (IsDeclared spec) }
-    requires reported { AreReported spec (IsDeclared spec) conflicts }
+    requires clashes { AreClashes spec clashes }
     requires pairs { AreConflicting spec pairs }
     ensures { (start : Specification) → Reaches start steps spec → IfOk result (IsRepaired start) }
 {
-    match first_step(rt, alloc, &spec, conflicts.as_slice(), pairs.as_slice())? {
+    match first_step(alloc, &spec, clashes.as_slice(), pairs.as_slice())? {
         None => ended(rt, alloc, spec, pairs, steps),
         Some(Taken { step, lessened }) => {
             let grown = with_step(steps, step)?;
             let Lessened {
                 next,
-                conflicts,
+                clashes,
                 pairs,
             } = lessened;
-            repaired_from(rt, alloc, next, conflicts, pairs, grown)
+            repaired_from(rt, alloc, next, clashes, pairs, grown)
         }
     }
 }
@@ -121,18 +125,17 @@ fn ended(
 
 // The step of the first pair that has an offer which lessens the conflicting pairs.
 fn first_step(
-    rt: &(impl Threads + Sync),
     alloc: Global,
     spec: &Spec,
-    conflicts: &[Conflict],
+    clashes: &[Clash],
     pairs: &[Pair],
 ) -> Result<Option<Taken>, AllocError>
-    requires reported { AreReported spec.now (IsDeclared spec.now) conflicts.now }
+    requires clashes { AreClashes spec.now clashes.now }
     requires pairs { AreConflicting spec.now pairs.now }
     ensures { IfOk result (λ found. MatchOption found (All (LessensNothing spec.now) pairs.now) (IsFirstTaken spec.now pairs.now)) }
 {
     for pair in pairs {
-        if let Some(taken) = step_of(rt, alloc, spec, conflicts, pairs, *pair)? {
+        if let Some(taken) = step_of(alloc, spec, clashes, pairs, *pair)? {
             return Ok(Some(taken));
         }
     }
@@ -141,20 +144,19 @@ fn first_step(
 
 // The step of a pair, where it has such an offer.
 fn step_of(
-    rt: &(impl Threads + Sync),
     alloc: Global,
     spec: &Spec,
-    conflicts: &[Conflict],
+    clashes: &[Clash],
     pairs: &[Pair],
     pair: Pair,
 ) -> Result<Option<Taken>, AllocError>
-    requires reported { AreReported spec.now (IsDeclared spec.now) conflicts.now }
+    requires clashes { AreClashes spec.now clashes.now }
     requires pairs { AreConflicting spec.now pairs.now }
     requires conflicts { PairConflicts spec.now pair }
     ensures { IfOk result (λ found. MatchOption found (LessensNothing spec.now pair) (IsTaken spec.now pairs.now pair)) }
 {
-    let offers = offers_by(alloc, spec, conflicts, pair.left, pair.right)?;
-    match first_lessening(rt, alloc, spec, pairs, offers.as_slice())? {
+    let offers = offers_by(alloc, spec, clashes, pair.left, pair.right)?;
+    match first_lessening(alloc, spec, clashes, pairs, offers.as_slice())? {
         None => Ok(None),
         Some(applied) => Ok(Some(Taken {
             step: RepairStep {
@@ -170,18 +172,19 @@ fn step_of(
 
 // The first of the offers that lessens the conflicting pairs.
 fn first_lessening(
-    rt: &(impl Threads + Sync),
     alloc: Global,
     spec: &Spec,
+    clashes: &[Clash],
     pairs: &[Pair],
     offers: &[Offer],
 ) -> Result<Option<Applied>, AllocError>
+    requires clashes { AreClashes spec.now clashes.now }
     requires pairs { AreConflicting spec.now pairs.now }
     requires faultless { All (λ o. IsFaultless (applied spec.now o.parts)) offers.now }
     ensures { IfOk result (λ found. MatchOption found (All (λ o. Lessens spec.now o.parts → ⊥) offers.now) (IsFirstLessened spec.now pairs.now offers.now)) }
 {
     for (place, offer) in offers.iter().enumerate() {
-        if let Some(lessened) = less_after(rt, alloc, spec, pairs, offer)? {
+        if let Some(lessened) = less_after(alloc, spec, clashes, pairs, offer)? {
             return Ok(Some(Applied {
                 place: counted(place)?,
                 lessened,
@@ -204,30 +207,29 @@ fn counted(place: usize) -> Result<u32, AllocError>
 
 // What the offer leads to, where that has no triple that is too wide, and fewer conflicting pairs.
 fn less_after(
-    rt: &(impl Threads + Sync),
     alloc: Global,
     spec: &Spec,
+    clashes: &[Clash],
     pairs: &[Pair],
     offer: &Offer,
 ) -> Result<Option<Lessened>, AllocError>
+    requires clashes { AreClashes spec.now clashes.now }
     requires pairs { AreConflicting spec.now pairs.now }
     requires faultless { IsFaultless (applied spec.now offer.now.parts) }
     ensures { IfOk result (λ found. MatchOption found (Lessens spec.now offer.now.parts → ⊥) (IsLessened spec.now pairs.now offer.now)) }
 {
     let next = apply(spec, offer)?;
-    let analysis = match analyse(rt, alloc, &next) {
-        Ok(analysis) => analysis,
-        Err(PairFault::TooWide { .. }) => return Ok(None),
-        Err(PairFault::NoMemory) => return Err(AllocError),
+    let clashes = match clashes_after(alloc, spec, clashes, offer.parts.as_slice(), &next)? {
+        None => return Ok(None),
+        Some(clashes) => clashes,
     };
-    let conflicts = analysis.conflicts;
-    let left = conflicting_pairs(alloc, &next, conflicts.as_slice())?;
+    let left = conflicting_pairs(alloc, &next, clashes.as_slice())?;
     if left.len() >= pairs.len() {
         return Ok(None);
     }
     Ok(Some(Lessened {
         next,
-        conflicts,
+        clashes,
         pairs: left,
     }))
 }

@@ -8,7 +8,9 @@
 
 mod applying;
 mod candidates;
+mod changing;
 mod choices;
+mod clashes;
 mod clearing;
 mod counting;
 mod greedy;
@@ -23,6 +25,6 @@ mod trying;
 pub use applying::apply;
 pub use candidates::{Candidate, Offer};
 pub use greedy::repair;
-pub use laws::one_repair;
+pub use laws::{conflicts_are_local, one_repair};
 pub use offering::offers;
 pub use steps::{RepairStep, Repaired};

@@ -300,7 +300,7 @@ fn same_effect(one: &Effect, other: &Effect) -> bool
         && same_arg(one.args[2], other.args[2])
 }
 
-fn same_kind(one: bool, other: bool) -> bool
+pub(crate) fn same_kind(one: bool, other: bool) -> bool
     ensures { result ≡ same_kind one other }
 {
     if one { other } else { !other }

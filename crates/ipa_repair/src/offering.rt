@@ -2,14 +2,16 @@
 ghost use Rattle.std.specs.Prelude.{◌≤◌, IfOk, IfErr};
 ghost use Rattle.ipa_spec.specs.Actions.{IsAction};
 ghost use Rattle.ipa_pairs.specs.Width.{action_place, IsNarrow, IsDeclared};
-ghost use Rattle.ipa_pairs.specs.Analyses.{AreReported, IsPairFault};
+ghost use Rattle.ipa_pairs.specs.Analyses.{IsPairFault};
 ghost use Rattle.ipa_repair.specs.Offers.{AreOffers};
+ghost use Rattle.ipa_repair.specs.Showing.{AreClashes};
 
 use crate::candidates::Offer;
+use crate::clashes::{Clash, clashes_of};
 use crate::listing::candidates_of;
 use crate::reporting::reported_clauses;
 use crate::trying::offers_of;
-use ipa_pairs::{Conflict, PairFault, analyse};
+use ipa_pairs::{PairFault, analyse};
 use ipa_spec::{Action, List, Spec};
 use std::alloc::{AllocError, Global};
 use std::thread::Threads;
@@ -35,24 +37,25 @@ pub fn offers(
     ensures fault { IfErr result (IsPairFault spec.now (IsDeclared spec.now)) }
 {
     let analysis = analyse(rt, alloc, spec)?;
-    let offers = offers_by(alloc, spec, analysis.conflicts.as_slice(), left, right)?;
+    let clashes = clashes_of(alloc, spec, analysis.conflicts.as_slice())?;
+    let offers = offers_by(alloc, spec, clashes.as_slice(), left, right)?;
     Ok(offers)
 }
 
-/// The same, by all conflicts of the specification.
+/// The same, by all triples in conflict.
 pub(crate) fn offers_by(
     alloc: Global,
     spec: &Spec,
-    conflicts: &[Conflict],
+    clashes: &[Clash],
     left: Action,
     right: Action,
 ) -> Result<List<Offer>, AllocError>
     requires left { IsAction spec.now left }
     requires right { IsAction spec.now right }
-    requires reported { AreReported spec.now (IsDeclared spec.now) conflicts.now }
+    requires clashes { AreClashes spec.now clashes.now }
     ensures { IfOk result (AreOffers spec.now left right) }
 {
-    let reported = reported_clauses(alloc, spec, conflicts, left, right)?;
+    let reported = reported_clauses(alloc, spec, clashes, left, right)?;
     let candidates = candidates_of(alloc, spec, left, right, reported.as_slice())?;
     offers_of(alloc, spec, left, right, candidates.as_slice())
 }

@@ -28,14 +28,18 @@ fn repairs_end_as_worked_out(rt: HostRuntime) -> Result<(), Fail> {
     for (sample, end) in [
         (Sample::Nothing, End::Done(0)),
         (Sample::EnrolmentMended, End::Done(0)),
+        (Sample::AdminsMended, End::Done(0)),
+        (Sample::Tournament, End::Done(0)),
         (Sample::Enrolment, End::Done(1)),
+        (Sample::Admins, End::Done(1)),
         (Sample::Leader, End::Stuck(0, 1)),
+        (Sample::Matches, End::Stuck(0, 0)),
     ] {
         let repaired = repair(&rt, rt.alloc(), spec_of(rt.alloc(), sample)?);
         let Ok(repaired) = repaired else {
             return Err("no repair".into());
         };
-        assert!(rt; end_of(&repaired) == end);
+        assert!(rt; end_of(&repaired) == end, "{sample:?}");
     }
     Ok(())
 }
@@ -47,18 +51,40 @@ fn are_same(alloc: Global, one: &Spec, other: &Spec) -> Result<bool, Fail> {
     Ok(one.as_slice() == other.as_slice())
 }
 
-#[test]
-fn the_first_offer_of_the_enrolment_is_applied(rt: HostRuntime) -> Result<(), Fail> {
-    let repaired = repair(&rt, rt.alloc(), spec_of(rt.alloc(), Sample::Enrolment)?);
-    let Ok(Repaired::Done(accepted, steps)) = repaired else {
+/// Whether the repair of the one sample applies the first of so many offers, and leads to the other sample.
+fn is_mended_by_first(
+    rt: &(impl Threads + Sync),
+    alloc: Global,
+    sample: Sample,
+    mended: Sample,
+    offers: usize,
+) -> Result<bool, Fail> {
+    let Ok(Repaired::Done(accepted, steps)) = repair(rt, alloc, spec_of(alloc, sample)?) else {
         return Err("not done".into());
     };
-    let mended = spec_of(rt.alloc(), Sample::EnrolmentMended)?;
-    assert!(rt; are_same(rt.alloc(), accepted.spec(), &mended)?);
     let Some(step) = steps.get(0) else {
         return Err("no step".into());
     };
-    assert!(rt; step.applied == 1 && step.offers.len() == 3);
+    let mended = spec_of(alloc, mended)?;
+    Ok(
+        are_same(alloc, accepted.spec(), &mended)?
+            && step.applied == 1
+            && step.offers.len() == offers,
+    )
+}
+
+/// The enrolment makes its player known, of three offers; and locking makes the constant an admin, of two.
+#[test]
+fn first_offers_are_applied(rt: HostRuntime) -> Result<(), Fail> {
+    for (sample, mended, offers) in [
+        (Sample::Enrolment, Sample::EnrolmentMended, 3),
+        (Sample::Admins, Sample::AdminsMended, 2),
+    ] {
+        assert!(rt;
+            is_mended_by_first(&rt, rt.alloc(), sample, mended, offers)?,
+            "{sample:?}"
+        );
+    }
     Ok(())
 }
 

@@ -7,6 +7,7 @@
 --   offers_text s k os   the lines of offers, of which the first has this number
 --   step_text s step     the lines of a step
 --   repaired_line steps  how many steps a repair took that is done, and nothing where it took none
+--   end_of r             the specification that a repair ends in
 --   repair_text r        the text of a repair
 --
 -- All specifications of a repair have the same names, so that each step is printed by those of the last one.
@@ -25,6 +26,11 @@ use Rattle.ipa_repair.specs.declared.steps.Repaired.{Repaired}
 use Rattle.ipa_repair.specs.declared.steps.Repaired.TheVariants.{Done, Stuck}
 use Rattle.ipa_report.specs.Elements.{action_name_text, predicate_name_text}
 use Rattle.ipa_report.specs.Reports.{report_text}
+
+-- the specification that a repair ends in: accepted, or left where it is stuck
+abbrev pub end_of : Repaired → Specification
+end_of (Done accepted steps) = accepted
+end_of (Stuck end steps analysis) = end
 
 -- an operation's name and the line of its new effect, or `flip` and a predicate's name
 abbrev pub part_text : Specification → Candidate → List ℕ

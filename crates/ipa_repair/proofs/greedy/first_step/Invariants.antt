@@ -5,4 +5,4 @@ use Rattle.ipa_repair.specs.declared.pairs.Pair.{Pair}
 use Rattle.ipa_repair.proofs.greedy.first_step.Given as goal
 
 abbrev pub invariant-loop-pair : goal.invariant-loop-pair
-invariant-loop-pair g l = (n : ℕ) (p : Pair) → n < l.pair-index → slice_get l.pairs n ≡ Some p → LessensNothing l.spec p
+invariant-loop-pair l = (n : ℕ) (p : Pair) → n < l.pair-index → slice_get l.pairs n ≡ Some p → LessensNothing l.spec p
