@@ -4,7 +4,8 @@ use Rattle.ipa_history.specs.Histories.{IsMember}
 use Rattle.ipa_history.specs.declared.history.Tx.{Tx}
 use Rattle.ipa_gate.specs.Agreements.{HasAll, IsParted, IsDivergence}
 use Rattle.ipa_gate.specs.declared.answers.Diverged.{Diverged}
-use Rattle.ipa_gate.proofs.WalkLemmas.{UpTo, item_at, earlier, each_member}
+use Rattle.ipa_gate.specs.Fronts.{UpTo}
+use Rattle.ipa_gate.proofs.WalkLemmas.{item_at, earlier, each_member}
 
 module _ (h seen items : List Tx) (k : ℕ) (same : items ≡ seen) (before : UpTo (IsMember h) items k) where
   pub divergence_found : (d : Tx) (diverged : Diverged) → k < length items → IsParted h (get_or items k d) diverged →

@@ -11,9 +11,9 @@ use Rattle.ipa_history.specs.HistoryLaws as histories
 use Rattle.ipa_history.specs.HistoryLaws.{covered_covers, covers_covered}
 use Rattle.ipa_history.specs.PushLaws.{HasNumber, dots_there}
 use Rattle.ipa_history.specs.declared.history.Tx.{Tx}
-use Rattle.ipa_gate.specs.Shapes.{IsWithinSessions}
 use Rattle.ipa_gate.specs.Cuts.{HasFirstOpen, LastBelow, LastsBelow}
-use Rattle.ipa_gate.proofs.WalkLemmas.{UpTo, item_at, earlier, each_member}
+use Rattle.ipa_gate.specs.Fronts.{UpTo}
+use Rattle.ipa_gate.proofs.WalkLemmas.{item_at, earlier, each_member}
 
 -- what is not below if it is covered is covered, and not below
 covered_open : (c : Cut) (u : Tx) → (IsBelowIfCovered c u → ⊥) → Covers c u.dot
@@ -43,11 +43,12 @@ pub below_all : (h items : List Tx) (c : Cut) (k : ℕ) → items ≡ h → leng
 below_all h items c k same past before = below_from h c (each_member h items k same past before)
 
 -- a cut that lies below the clock, and has nothing of other origins, is within the counts
-pub within_from : (h : List Tx) (c clock : Cut) (n : ℕ) → n ≤ 16 → IsWithinSessions n c →
+pub within_from : (h : List Tx) (c clock : Cut) (n : ℕ) → n ≤ 16 →
+    ((o : ℕ) → n ≤ o → count_of c o ≡ 0) →
     ((o : ℕ) → o < 16 → count_of clock o ≡ number_of o h) → IsBelow c clock → (o : ℕ) → count_of c o ≤ number_of o h
 within_from h c clock n few others counts below o = elim (cases_lt o 16) [
   | inl low ↦ let b = below.counts o in let count = counts o low in omega (arith, b, count)
-  | inr high ↦ let none = others.none o (omega (arith, few, high)) in omega (arith, none)
+  | inr high ↦ let none = others o (omega (arith, few, high)) in omega (arith, none)
 ]
 
 module _ (h : List Tx) (is : IsHistory h) (c : Cut) where

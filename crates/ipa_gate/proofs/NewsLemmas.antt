@@ -1,5 +1,5 @@
 -- What a log has beyond a history that is part of it.
-use Rattle.std.proofs.Common.{◌≡◌, ℕ, zero, suc, ◌<◌, ◌≤◌, Bool, true, false, not, cond, List, [], ◌∷◌, ◌++◌, length, filter, take, refl, sym, ◌∙◌, ap, subst, arith, Some, None, slice_get, inl, inr, append_assoc, append-nil}
+use Rattle.std.proofs.Common.{◌≡◌, ℕ, zero, suc, ◌<◌, ◌≤◌, Bool, true, false, not, cond, List, [], ◌∷◌, ◌++◌, length, filter, take, drop, refl, sym, ◌∙◌, ap, subst, arith, Some, None, slice_get, inl, inr, append_assoc, append-nil}
 use Rattle.std.specs.Prelude.{◌==◌}
 use Rattle.std.specs.List.{list_any}
 use Rattle.std.proofs.lemmas.Bool.{cases_lt, cases_Bool, false≢true, and_from, eq-eqb, both_ways}
@@ -22,7 +22,8 @@ use Rattle.ipa_lift.specs.CutLaws.{Agree, IsLegal-agree}
 use Rattle.ipa_lift.specs.FewDrops.{no_more}
 use Rattle.ipa_lift.specs.FollowLaws.{IsLegalHistory-push}
 use Rattle.ipa_lift.specs.StandingLaws.{is_named, named_itself, named_same}
-use Rattle.ipa_gate.specs.Agreements.{HasAll, lacks, news_of}
+use Rattle.ipa_gate.specs.Agreements.{HasAll, lacks, news_of, IsReadTo, IsCoveredTo}
+use Rattle.ipa_gate.specs.Fronts.{filter-later}
 
 -- tests that agree on the members keep the same
 pub filter-same : {X : Type 0} (p q : X → Bool) (xs : List X) → ((x : X) → IsMember xs x → p x ≡ q x) →
@@ -116,6 +117,54 @@ news-uncovered h seen clock is known counts =
     filter-same (λ t. not (is_covered clock t.dot)) (lacks seen) h
     (λ t m. ap not (covered-named seen clock known counts t (histories.positive h is t m) (is.origins t m)))
 
+-- where the first n entries were seen, the clock covers them
+pub read-covered : (h seen : List Tx) (clock : Cut) → IsHistory h → IsHistory seen →
+    ((o : ℕ) → o < 16 → count_of clock o ≡ number_of o seen) → (n : ℕ) → IsReadTo h seen n → IsCoveredTo h clock n
+read-covered h seen clock is known counts n read = record {
+  within = read.within;
+  each = λ k t l at.
+      let m : IsMember h t = record { place = k; at = at } in
+      covered-named seen clock known counts t (histories.positive h is t m) (is.origins t m)
+      ∙ any_from (λ u. is_named u t) seen t (read.each k t l at) (named_itself t);
+}
+
+-- where the cut covers the first n entries, what it leaves uncovered is among the later ones
+pub uncovered-later : (h : List Tx) (cut : Cut) (n : ℕ) → IsCoveredTo h cut n →
+    filter (λ t. not (is_covered cut t.dot)) (drop n h) ≡ filter (λ t. not (is_covered cut t.dot)) h
+uncovered-later h cut n covered =
+    filter-later (λ t. not (is_covered cut t.dot)) h n (λ k t l at. ap not (covered.each k t l at))
+
+-- so what the clock leaves uncovered of them is the news
+pub news-are : (h seen later items : List Tx) (clock : Cut) → IsHistory h → IsHistory seen →
+    ((o : ℕ) → o < 16 → count_of clock o ≡ number_of o seen) → (n : ℕ) → IsReadTo h seen n → later ≡ drop n h →
+    items ≡ filter (λ t. not (is_covered clock t.dot)) later → items ≡ news_of h seen
+news-are h seen later items clock is known counts n read later_is items_are =
+    items_are
+    ∙ (ap (λ (xs : List Tx). filter (λ t. not (is_covered clock t.dot)) xs) later_is
+    ∙ (uncovered-later h clock n (read-covered h seen clock is known counts n read)
+    ∙ news-uncovered h seen clock is known counts))
+
+-- a member that is not lacking was seen
+was_seen : (h seen : List Tx) → IsHistory h → HasAll h seen → (t : Tx) → IsMember h t → lacks seen t ≡ false →
+    IsMember seen t
+was_seen h seen is all t m has =
+    let f = found (λ u. is_named u t) seen (named_from (list_any (λ u. is_named u t) seen) has) in
+    let same = histories.one_named h is f.one t (all.each f.one f.member) m (named_same f.one t f.passes) in
+    subst (λ (x : Tx). IsMember seen x) same f.member
+  where
+    named_from : (b : Bool) → not b ≡ false → b ≡ true
+    named_from true e = refl
+    named_from false e = absurd (false≢true (sym e))
+
+-- what was seen, followed by the news, has all entries
+pub news-all : (h seen : List Tx) → IsHistory h → HasAll h seen → HasAll (seen ++ news_of h seen) h
+news-all h seen is all = record {
+  each = λ t m. elim (cases_Bool (lacks seen t)) [
+    | inl lacking ↦ member-append_right seen (news_of h seen) t (member-filter (lacks seen) h t m lacking)
+    | inr has ↦ member-append_left seen (news_of h seen) t (was_seen h seen is all t m has)
+  ];
+}
+
 module _ (s : Specification) (universe : Universe) (base : List Fact) (h seen : List Tx)
     (legal : IsLegalHistory s universe base h) (few : length h ≤ 65536)
     (known : IsLegalHistory s universe base seen) (all : HasAll h seen) where
@@ -129,17 +178,6 @@ module _ (s : Specification) (universe : Universe) (base : List Fact) (h seen : 
     | inr b ↦ let kept = filter_member (lacks seen) (take k h) t b in member-take k h t kept.member
   ]
 
-  -- a member that is not lacking was seen
-  was_seen : (t : Tx) → IsMember h t → lacks seen t ≡ false → IsMember seen t
-  was_seen t m has =
-      let f = found (λ u. is_named u t) seen (named_from (list_any (λ u. is_named u t) seen) has) in
-      let same = histories.one_named h legal.history f.one t (all.each f.one f.member) m (named_same f.one t f.passes) in
-      subst (λ (x : Tx). IsMember seen x) same f.member
-    where
-      named_from : (b : Bool) → not b ≡ false → b ≡ true
-      named_from true e = refl
-      named_from false e = absurd (false≢true (sym e))
-
   not_seen : (t : Tx) → lacks seen t ≡ true → IsMember seen t → ⊥
   not_seen t lacking m =
       both_ways (lacks seen t) (ap not (any_from (λ u. is_named u t) seen t m (named_itself t))) lacking
@@ -147,7 +185,8 @@ module _ (s : Specification) (universe : Universe) (base : List Fact) (h seen : 
   inside : (k : ℕ) (t : Tx) → IsMember (take k h) t → IsMember (front k) t
   inside k t m = elim (cases_Bool (lacks seen t)) [
     | inl lacking ↦ member-append_right seen (news_of (take k h) seen) t (member-filter (lacks seen) (take k h) t m lacking)
-    | inr has ↦ member-append_left seen (news_of (take k h) seen) t (was_seen t (member-take k h t m) has)
+    | inr has ↦ member-append_left seen (news_of (take k h) seen) t
+        (was_seen h seen legal.history all t (member-take k h t m) has)
   ]
 
   module _ (k : ℕ) (t : Tx) (at : slice_get h k ≡ Some t) (lacking : lacks seen t ≡ true)

@@ -16,7 +16,6 @@ use Rattle.ipa_gate.specs.Logs.{IsLog}
 use Rattle.ipa_gate.specs.Offers.{IsNextIn, IsUnlawful}
 use Rattle.ipa_gate.specs.Verdicts.{IsAtCut}
 use Rattle.ipa_gate.specs.VerdictLaws.{meetings_of}
-use Rattle.ipa_gate.specs.LogLaws.{IsFitting-shaped}
 
 -- what comes next in a log is at its closed cut
 pub IsAtCut-next : (s : SettingParts) → IsFit s.spec → IsSetting s → (h : List Tx) → IsLog s h → (t : Tx) →
@@ -26,8 +25,8 @@ IsAtCut-next s fit setting h log t next = record {
   accepted = setting.accepted;
   legal = log.legal;
   closed = next.closed;
-  own = next.fresh.shaped.dot.own;
-  fitting = IsFitting-shaped s t next.fresh.shaped;
+  own = next.fresh.shaped.own;
+  fitting = next.fresh.shaped.fitting;
 }
 
 -- so it never breaks a clause, where it is a drop

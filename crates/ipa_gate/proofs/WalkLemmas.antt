@@ -3,10 +3,7 @@ use Rattle.std.proofs.Common.{◌≡◌, ℕ, ◌+◌, ◌<◌, ◌≤◌, List,
 use Rattle.std.proofs.lemmas.Bool.{cases_lt}
 use Rattle.std.proofs.lemmas.Option.{slice_get-get_or, slice_get_within}
 use Rattle.ipa_history.specs.Histories.{IsMember}
-
--- it holds of each of the first k items
-abbrev pub UpTo : {X : Type 0} (P : X → Type 0) (items : List X) (k : ℕ) → Type 0
-UpTo P items k = (j : ℕ) (x : _) → j < k → slice_get items j ≡ Some x → P x
+use Rattle.ipa_gate.specs.Fronts.{UpTo}
 
 -- and of one more
 pub one_more : {X : Type 0} (P : X → Type 0) (items : List X) (k : ℕ) (d : X) → k < length items →

@@ -6,14 +6,17 @@
 --   lacks seen t            `seen` has no transaction under this dot
 --   news_of h seen          the entries that `seen` lacks, in log order
 --   beyond_of h peer        the first 64 entries, in log order, that the cut does not cover
+--   IsReadTo h seen n       `seen` has the first n entries
+--   IsCoveredTo h peer n    the cut covers the first n entries
 --   IfDiverged P fault      where the fault is a divergence, it is one of these
-use Rattle.std.specs.Prelude.{◌≡◌, ℕ, ◌<◌, Bool, not, List, filter, take, slice_get, Some, MatchOption}
+use Rattle.std.specs.Prelude.{◌≡◌, ℕ, ◌<◌, Bool, true, not, List, filter, take, slice_get, Some, MatchOption}
 use Rattle.std.specs.List.{list_any}
 use Rattle.ipa_clock.specs.declared.cut.Cut.{Cut}
 use Rattle.ipa_clock.specs.Cut.{is_covered}
 use Rattle.ipa_history.specs.Histories.{IsMember, IsNamedIn, NoneNamedIn}
 use Rattle.ipa_history.specs.declared.history.Tx.{Tx}
 use Rattle.ipa_lift.specs.StandingLaws.{is_named}
+use Rattle.ipa_gate.specs.Fronts.{HasFront}
 use Rattle.ipa_gate.specs.declared.answers.Diverged.{Diverged}
 use Rattle.ipa_gate.specs.declared.answers.PullFault.{PullFault}
 use Rattle.ipa_gate.specs.declared.answers.PullFault.TheVariants.{Diverged as Parted, NoMemory}
@@ -48,6 +51,14 @@ news_of h seen = filter (lacks seen) h
 -- the first 64 entries, in log order, that the cut does not cover
 abbrev pub beyond_of : List Tx → Cut → List Tx
 beyond_of h peer = take 64 (filter (λ t. not (is_covered peer t.dot)) h)
+
+-- `seen` has the first n entries
+abbrev pub IsReadTo : List Tx → List Tx → ℕ → Type 0
+IsReadTo h seen n = HasFront (IsMember seen) h n
+
+-- the cut covers the first n entries
+abbrev pub IsCoveredTo : List Tx → Cut → ℕ → Type 0
+IsCoveredTo h peer n = HasFront (λ t. is_covered peer t.dot ≡ true) h n
 
 -- where the fault is a divergence, it is one of these
 abbrev pub IfDiverged : (Diverged → Type 0) → PullFault → Type 0

@@ -6,6 +6,7 @@ pub mod Cuts
 pub mod Keeping
 pub mod Verdicts
 pub mod Offers
+pub mod Fronts
 pub mod Agreements
 pub mod VerdictLaws
 pub mod LogLaws

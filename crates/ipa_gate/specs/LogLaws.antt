@@ -1,13 +1,11 @@
 -- No entries are a log, and a log stays one where an admitted transaction is appended.
 --
 --   IsLog-empty            no entries are a log
---   IsFitting-shaped       the action and the arguments of what has the right shape fit
 use Rattle.std.proofs.Common.{◌≡◌, ℕ, ◌<◌, ◌≤◌, List, [], ◌∷◌, ◌++◌, ◌∙◌, ap, subst, arith, Some, None, inl, inr}
 use Rattle.std.proofs.lemmas.Bool.{cases_lt}
 use Rattle.std.proofs.lemmas.List.{length_push}
 use Rattle.ipa_clock.specs.declared.dot.Dot.{Dot}
 use Rattle.ipa_history.specs.Histories.{number_of}
-use Rattle.ipa_history.specs.Legality.{IsFitting}
 use Rattle.ipa_history.specs.MemberLaws.{member_none, member_cases, member-append_cases}
 use Rattle.ipa_history.specs.PushLaws.{CanFollow, dots_there}
 use Rattle.ipa_history.specs.declared.history.Tx.{Tx}
@@ -39,17 +37,13 @@ IsLog-empty s is = record {
   shaped = λ t m. absurd (member_none t m);
 }
 
--- the action and the arguments of what has the right shape fit
-pub IsFitting-shaped : (s : SettingParts) (t : Tx) → IsShaped s t → IsFitting s.spec s.universe t
-IsFitting-shaped s t shaped = record { declared = shaped.declared; arguments = shaped.arguments }
-
 module _ (s : SettingParts) (few : s.sessions ≤ 16) (h : List Tx) (log : IsLog s h) (t : Tx) (next : IsNextIn s h t) where
   -- the log does not have its number yet
   not_yet : number_of t.dot.origin h < t.dot.number
   not_yet = elim (cases_lt (number_of t.dot.origin h) t.dot.number) [
     | inl less ↦ less
     | inr more ↦
-        let u = dots_there h log.legal.history t.dot.origin t.dot.number next.fresh.shaped.dot.number more in
+        let u = dots_there h log.legal.history t.dot.origin t.dot.number next.fresh.shaped.number more in
         let dot : ℕ → ℕ → Dot = λ origin number. record { origin = origin; number = number } in
         let same : u.tx.dot ≡ t.dot = ap (λ (o : ℕ). dot o u.tx.dot.number) u.origin_is
         ∙ ap (λ (n : ℕ). dot t.dot.origin n) u.number_is in
@@ -60,12 +54,12 @@ module _ (s : SettingParts) (few : s.sessions ≤ 16) (h : List Tx) (log : IsLog
   pub CanFollow-next : CanFollow h t
   CanFollow-next = record {
     room = let l = log.few in omega (arith, l);
-    origin = let o = next.fresh.shaped.dot.origin in omega (arith, o, few);
+    origin = let o = next.fresh.shaped.origin in omega (arith, o, few);
     number =
         let low = next.closed.within t.dot.origin in
-        let own = next.fresh.shaped.dot.own in
+        let own = next.fresh.shaped.own in
         omega (arith, low, own, not_yet);
-    own = next.fresh.shaped.dot.own;
+    own = next.fresh.shaped.own;
     closed = next.closed;
   }
 
@@ -74,7 +68,7 @@ pub IsLog-push : (s : SettingParts) → s.sessions ≤ 16 → (h : List Tx) (t :
     IsLog s (h ++ t ∷ [])
 IsLog-push s few h t log is = record {
   legal = IsLegalHistory-push s.spec s.universe s.base h t log.legal (CanFollow-next s few h log t is.next)
-      (IsFitting-shaped s t is.next.fresh.shaped) is.legal;
+      is.next.fresh.shaped.fitting is.legal;
   few = let room = is.room in omega (arith, room, length_push h t);
   shaped = λ u m. elim (member-append_cases h (t ∷ []) u m) [
     | inl a ↦ log.shaped u a

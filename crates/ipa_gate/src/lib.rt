@@ -32,4 +32,4 @@ pub use laws::{law_drops_are_few, law_equal_cuts, law_log_keeps};
 pub use log::Log;
 pub use setting::Setting;
 pub use shapes::argument_count;
-pub use verdicts::reason_at;
+pub use verdicts::{reason_at, reason_within};

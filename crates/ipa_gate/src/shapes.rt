@@ -1,8 +1,9 @@
 //! Whether a transaction has the right shape for a setting.
-ghost use Rattle.std.specs.Prelude.{◌≡◌, ◌↔◌, ◌<◌, ◌≤◌, IsTrue, length};
+ghost use Rattle.std.specs.Prelude.{◌≡◌, ◌↔◌, ◌+◌, ◌<◌, ◌≤◌, IsTrue, length};
+ghost use Rattle.ipa_clock.specs.Cut.{count_of};
 ghost use Rattle.ipa_spec.specs.Actions.{sorts_of};
 ghost use Rattle.ipa_logic.specs.Truth.{IsArguments};
-ghost use Rattle.ipa_gate.specs.Shapes.{HasDot, IsWithinSessions, IsArgumentAt, IsShaped};
+ghost use Rattle.ipa_gate.specs.Shapes.{IsWithinSessions, IsArgumentAt, IsShaped};
 
 use crate::setting::Setting;
 use ipa_clock::Cut;
@@ -26,7 +27,8 @@ pub(crate) fn is_shaped(setting: &Setting, tx: &Tx) -> bool
 // Whether its origin is a session, its number is above 0, and its cut has number - 1 at its own origin.
 fn has_dot(tx: &Tx, sessions: u8) -> bool
     requires { sessions ≤ 16 }
-    ensures { IsTrue result ↔ HasDot sessions tx.now }
+    ensures { IsTrue result ↔ (tx.now.dot.origin < sessions) × (0 < tx.now.dot.number)
+        × (count_of tx.now.cut tx.now.dot.origin + 1 ≡ tx.now.dot.number) }
 {
     tx.dot.origin < sessions
         && tx.dot.number > 0

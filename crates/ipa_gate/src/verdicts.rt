@@ -1,9 +1,10 @@
 //! Whether a transaction is legal between the state at its cut, seen by a view, and the state after it, which is not
 //! built.
-ghost use Rattle.std.specs.Prelude.{◌≡◌, ◌↔◌, true, IsTrue, MatchOption, List};
+ghost use Rattle.std.specs.Prelude.{◌≡◌, ◌↔◌, ℕ, true, IsTrue, MatchOption, List};
 ghost use Rattle.ipa_logic.specs.Facts.{has, IsStateOf};
 ghost use Rattle.ipa_logic.specs.Truth.{Keeps};
 ghost use Rattle.ipa_logic.specs.Touches.{IsAfter};
+ghost use Rattle.ipa_logic.specs.Groups.{Within};
 ghost use Rattle.ipa_logic.specs.DueDrops.{IsDueDrop};
 ghost use Rattle.ipa_logic.specs.declared.facts.Fact.{Fact as TheFact};
 ghost use Rattle.ipa_history.specs.Values.{value_at};
@@ -47,6 +48,28 @@ pub fn reason_at<V: AgedView>(
     }
 }
 
+/// The same for an operation at whose cut the state is within the bounds. They are not looked through again.
+pub fn reason_within<V: AgedView>(
+    spec: &Spec,
+    universe: &Universe,
+    base: &State,
+    history: &History,
+    view: &V,
+    tx: &Tx,
+) -> Option<Reason>
+    requires at { IsAtCut spec.now universe.now.sizes base.now history.now tx.now }
+    requires state { IsStateOf (value_at spec.now base.now history.now tx.now.cut) (V.facts view.now) }
+    requires operation { (number : ℕ) → tx.now.action ≡ Action.Drop number → ⊥ }
+    requires within { Within spec.now.bounds (V.facts view.now) }
+    ensures { MatchOption result (IsLegal spec.now universe.now.sizes base.now history.now tx.now)
+        (IsIllegal spec.now universe.now.sizes base.now history.now tx.now) }
+{
+    match tx.action {
+        Action::Op(_) => reason_besides(spec, universe, view, tx),
+        Action::Drop(_) => unreachable!(),
+    }
+}
+
 // The first reason why the operation is not legal, or `None` where it is. The viewed state keeps all clauses.
 fn reason_against<V: AgedView>(
     spec: &Spec,
@@ -62,6 +85,22 @@ fn reason_against<V: AgedView>(
     if let Some(drop) = first_drop(spec, view) {
         return Some(Reason::NotWithin(drop.bound));
     }
+    reason_besides(spec, universe, view, tx)
+}
+
+// The same where the viewed state is within the bounds.
+fn reason_besides<V: AgedView>(
+    spec: &Spec,
+    universe: &Universe,
+    view: &V,
+    tx: &Tx,
+) -> Option<Reason>
+    requires keeps { Keeps spec.now universe.now.sizes (has (V.facts view.now)) }
+    requires within { Within spec.now.bounds (V.facts view.now) }
+    ensures { (after : List TheFact) → IsAfter spec.now tx.now.action tx.now.args (V.facts view.now) after →
+        MatchOption result (IsLegalOperation spec.now universe.now.sizes tx.now (V.facts view.now) after)
+        (IsOperationReason spec.now universe.now.sizes tx.now (V.facts view.now) after) }
+{
     if let Some(number) = first_failing_need(spec, view, tx.action, &tx.args) {
         return Some(Reason::Need(number));
     }

@@ -16,27 +16,9 @@ pub const FORGET: Action = Action::Op(3);
 pub const DROP: Action = Action::Drop(0);
 
 /// Three players and two cups.
-pub fn universe() -> Universe {
-    Universe {
-        sizes: [3, 2, 0, 0, 0, 0, 0, 0],
-    }
-}
-
-/// That the player is known.
-pub fn known(player: u16) -> Fact {
-    Fact {
-        predicate: 0,
-        args: [player, 0, 0],
-    }
-}
-
-/// That the player is enrolled in the cup.
-pub fn enrolled(player: u16, cup: u16) -> Fact {
-    Fact {
-        predicate: 1,
-        args: [player, cup, 0],
-    }
-}
+pub const UNIVERSE: Universe = Universe {
+    sizes: [3, 2, 0, 0, 0, 0, 0, 0],
+};
 
 /// The state of these facts.
 pub fn holding(alloc: Global, facts: &[Fact]) -> Result<State, Fail> {

@@ -7,3 +7,5 @@ mod cups;
 mod played;
 #[cfg(test)]
 mod stories;
+#[cfg(test)]
+mod telling;

@@ -1,5 +1,5 @@
-//! Histories of players and cups, played transaction by transaction.
-use crate::cups::{holding, spec_of, universe};
+//! Games of players and cups, played transaction by transaction.
+use crate::cups::{DROP, ENROLL, UNIVERSE, holding, spec_of};
 use ipa_clock::{Cut, Dot};
 use ipa_history::{
     Answer, History, LegalFault, Reason, Tx, answer_plain, legal_plain, state_at_plain,
@@ -10,21 +10,25 @@ use std::alloc::Global;
 use std::test::Fail;
 
 /// What the origins 0 to 5 have done.
-pub fn cut_of(seen: [u32; 6]) -> Cut {
-    let mut counts = [0; 16];
+pub type Seen = [u32; 6];
+
+/// A transaction, as a story tells of it: its origin, what that had seen, and what it does, to a player and, if it is
+/// about a cup too, a cup.
+pub type Move = (u8, Seen, Action, [u16; 2]);
+
+/// The cut of what was seen.
+fn cut_of(seen: Seen) -> Cut {
+    let mut cut = Cut::empty();
     for origin in 0..6 {
-        counts[origin] = seen[origin];
+        cut.counts[origin] = seen[origin];
     }
-    Cut { counts }
+    cut
 }
 
-/// The next transaction of the origin where these are seen, with the arguments of its action.
-pub fn made(origin: u8, seen: [u32; 6], action: Action, args: &[u16]) -> Tx {
+/// The transaction of a move: the next one of its origin.
+fn tx_of(made: Move) -> Tx {
+    let (origin, seen, action, names) = made;
     let cut = cut_of(seen);
-    let mut values = [0; 4];
-    for place in 0..4 {
-        values[place] = args.get(place).copied().unwrap_or(0);
-    }
     let own = cut.counts.get(origin as usize).copied().unwrap_or(0);
     Tx {
         dot: Dot {
@@ -33,8 +37,12 @@ pub fn made(origin: u8, seen: [u32; 6], action: Action, args: &[u16]) -> Tx {
         },
         cut,
         action,
-        args: values,
-        count: if args.len() == 2 { 2 } else { 1 },
+        args: [names[0], names[1], 0, 0],
+        count: if action == ENROLL || action == DROP {
+            2
+        } else {
+            1
+        },
     }
 }
 
@@ -47,13 +55,8 @@ pub struct Game {
 }
 
 impl Game {
-    /// The game that begins with these facts, whose bound picks the greatest fact.
-    pub fn new(alloc: Global, facts: &[Fact]) -> Result<Game, Fail> {
-        Game::picking(alloc, Pick::Greatest, facts)
-    }
-
     /// The game that begins with these facts, with the bound's pick.
-    pub fn picking(alloc: Global, pick: Pick, facts: &[Fact]) -> Result<Game, Fail> {
+    pub fn new(alloc: Global, pick: Pick, facts: &[Fact]) -> Result<Game, Fail> {
         Ok(Game {
             spec: spec_of(alloc, pick)?,
             base: holding(alloc, facts)?,
@@ -61,60 +64,48 @@ impl Game {
         })
     }
 
-    /// The first reason against the transaction, which may follow.
-    pub fn reason(&self, alloc: Global, tx: &Tx) -> Result<Option<Reason>, Fail> {
-        if !self.history.can_follow(tx) {
+    /// The first reason against the move, which may follow.
+    pub fn reason(&self, alloc: Global, made: Move) -> Result<Option<Reason>, Fail> {
+        let tx = tx_of(made);
+        if !self.history.can_follow(&tx) {
             return Err("this does not follow".into());
         }
-        match legal_plain(
-            alloc,
-            &self.spec,
-            &universe(),
-            &self.base,
-            &self.history,
-            tx,
-        ) {
+        match legal_plain(alloc, &self.spec, &UNIVERSE, &self.base, &self.history, &tx) {
             Ok(()) => Ok(None),
             Err(LegalFault::Illegal(reason)) => Ok(Some(reason)),
             Err(LegalFault::NoMemory) => Err("memory is wanting".into()),
         }
     }
 
-    /// Plays the transactions, each of which follows and is legal.
-    pub fn play(&mut self, alloc: Global, txs: &[Tx]) -> Result<(), Fail> {
-        for tx in txs {
-            if self.reason(alloc, tx)?.is_some() {
-                return Err("this is not legal".into());
-            }
-            append(&mut self.history, tx)?;
-        }
-        Ok(())
+    /// Appends the move, which follows, legal or not.
+    pub fn append(&mut self, made: Move) -> Result<(), Fail> {
+        append(&mut self.history, &tx_of(made))
     }
 
-    /// Appends the transaction, which follows, legal or not.
-    pub fn force(&mut self, tx: &Tx) -> Result<(), Fail> {
-        append(&mut self.history, tx)
+    /// The state at the cut.
+    fn state(&self, alloc: Global, seen: Seen) -> Result<State, Fail> {
+        let cut = cut_of(seen);
+        let state = state_at_plain(alloc, &self.spec, &self.base, &self.history, &cut)?;
+        Ok(state)
     }
 
     /// Whether just these facts are true at the cut.
-    pub fn is_state(&self, alloc: Global, seen: [u32; 6], facts: &[Fact]) -> Result<bool, Fail> {
-        let cut = cut_of(seen);
-        let state = state_at_plain(alloc, &self.spec, &self.base, &self.history, &cut)?;
-        Ok(state.to_vec(alloc)?.as_slice() == facts)
+    pub fn is_state(&self, alloc: Global, seen: Seen, facts: &[Fact]) -> Result<bool, Fail> {
+        let state = self.state(alloc, seen)?;
+        are_facts(alloc, &state, facts)
     }
 
     /// The first broken instance at the cut.
-    pub fn broken(&self, alloc: Global, seen: [u32; 6]) -> Result<Option<Broken>, Fail> {
-        let cut = cut_of(seen);
-        let state = state_at_plain(alloc, &self.spec, &self.base, &self.history, &cut)?;
-        Ok(keeps(&self.spec, &universe(), &state))
+    pub fn broken(&self, alloc: Global, seen: Seen) -> Result<Option<Broken>, Fail> {
+        let state = self.state(alloc, seen)?;
+        Ok(keeps(&self.spec, &UNIVERSE, &state))
     }
 
     /// What the request of the origin is answered at the closed cut.
     pub fn answer(
         &self,
         alloc: Global,
-        seen: [u32; 6],
+        seen: Seen,
         origin: u8,
         request: &Request,
     ) -> Result<Answer, Fail> {
@@ -125,7 +116,7 @@ impl Game {
         let answer = answer_plain(
             alloc,
             &self.spec,
-            &universe(),
+            &UNIVERSE,
             &self.base,
             &self.history,
             &cut,
@@ -134,6 +125,11 @@ impl Game {
         )?;
         Ok(answer)
     }
+}
+
+/// Whether just these facts are true in the state.
+pub fn are_facts(alloc: Global, state: &State, facts: &[Fact]) -> Result<bool, Fail> {
+    Ok(state.to_vec(alloc)?.as_slice() == facts)
 }
 
 /// Appends the transaction, which follows.

@@ -2,6 +2,7 @@
 --
 --   state_at, ages_at     the facts that it keeps are the state there, with its ages
 --   keeps_at              which keeps all clauses
+--   within_at             where the session is calm, they are within the bounds
 --   calm_at               and where it is within the bounds, the session is calm
 --   shaped_next           its next transaction, with fitting arguments, has the right shape
 --   next_at_cut           and comes next at the cut
@@ -15,6 +16,7 @@ use Rattle.ipa_spec.specs.Fits.{IsFit}
 use Rattle.ipa_spec.specs.declared.operations.Action.{Action}
 use Rattle.ipa_logic.specs.Facts.{IsStateOf, has}
 use Rattle.ipa_logic.specs.Truth.{Keeps, IsArguments}
+use Rattle.ipa_logic.specs.FactLaws.{same_rising}
 use Rattle.ipa_logic.specs.Groups.{Within}
 use Rattle.ipa_logic.specs.declared.facts.Fact.{Fact}
 use Rattle.ipa_history.specs.Histories.{IsClosed, number_of, members_of}
@@ -66,6 +68,15 @@ module _ (p : SessionParts) (fit : IsFit p.setting.spec) (setting : IsSetting p.
       (meeting_keeps p.setting.spec fit p.setting.universe p.setting.base p.seen is.legal
       (meetings_of p.setting.spec setting.accepted p.seen) c closed)
 
+  -- where the session is calm, they are within the bounds
+  pub within_at : (facts : Facts) → IsFactsOf p.setting.spec p.setting.base p.seen facts → IsCalmAt p c →
+      Within p.setting.spec.bounds (true_facts facts)
+  within_at facts are calm =
+      let state = state_at facts are in
+      subst (λ (s : List Fact). Within p.setting.spec.bounds s)
+      (same_rising calm.state (true_facts facts) calm.at.rising state.rising
+      (λ f. calm.at.facts f ∙ sym (state.facts f))) calm.within
+
   -- where it is within the bounds, the session is calm
   pub calm_at : (facts : Facts) → IsFactsOf p.setting.spec p.setting.base p.seen facts →
       Within p.setting.spec.bounds (true_facts facts) → IsCalmAt p c
@@ -82,7 +93,7 @@ module _ (p : SessionParts) (fit : IsFit p.setting.spec) (setting : IsSetting p.
     | inr none ↦ let count = clock.counts o in omega (arith, none, count)
     | inl some ↦
         let u = dots_there p.seen is.legal.history o 1 (omega arith) (omega (arith, some)) in
-        let inside = (is.shaped u.tx u.member).dot.origin in
+        let inside = (is.shaped u.tx u.member).origin in
         let same = u.origin_is in
         absurd (omega (arith, inside, same, past))
   ]
@@ -101,16 +112,17 @@ module _ (p : SessionParts) (fit : IsFit p.setting.spec) (setting : IsSetting p.
     -- its next transaction has the right shape
     pub shaped_next : IsShaped p.setting t
     shaped_next = record {
-      dot = record {
-        origin = let inside = is.origin in omega (arith, inside, origin);
-        number = omega (arith, number);
-        own = omega (arith, counted, number);
+      origin = let inside = is.origin in omega (arith, inside, origin);
+      others = λ o past. ap (λ (d : Cut). count_of d o) next.cut ∙ others o past;
+      number = omega (arith, number);
+      own = omega (arith, counted, number);
+      fitting = record {
+        declared = subst (λ (a : Action). IsAction p.setting.spec a) (sym next.action_is) declared;
+        arguments = subst (λ (xs : List ℕ). IsArguments p.setting.spec p.setting.universe t.action xs)
+            (sym next.args_are)
+            (subst (λ (a : Action). IsArguments p.setting.spec p.setting.universe a args) (sym next.action_is) fits);
       };
-      others = record { none = λ o past. ap (λ (d : Cut). count_of d o) next.cut ∙ others o past };
-      declared = subst (λ (a : Action). IsAction p.setting.spec a) (sym next.action_is) declared;
       count = next.count ∙ ap (λ (a : Action). length (sorts_of p.setting.spec a)) (sym next.action_is);
-      arguments = subst (λ (xs : List ℕ). IsArguments p.setting.spec p.setting.universe t.action xs) (sym next.args_are)
-          (subst (λ (a : Action). IsArguments p.setting.spec p.setting.universe a args) (sym next.action_is) fits);
     }
 
     -- it comes next at the cut
@@ -121,5 +133,5 @@ module _ (p : SessionParts) (fit : IsFit p.setting.spec) (setting : IsSetting p.
       legal = is.legal;
       closed = subst (λ (d : Cut). IsClosed p.seen d) (sym next.cut) closed;
       own = omega (arith, counted, number);
-      fitting = record { declared = shaped_next.declared; arguments = shaped_next.arguments };
+      fitting = shaped_next.fitting;
     }

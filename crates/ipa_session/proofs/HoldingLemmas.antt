@@ -16,7 +16,7 @@ use Rattle.ipa_sets.specs.FactSets.{IsFactsOf}
 use Rattle.ipa_sets.specs.declared.facts.Facts.{Facts}
 use Rattle.ipa_gate.specs.Settings.{SettingParts, IsSetting}
 use Rattle.ipa_gate.specs.Shapes.{IsShaped}
-use Rattle.ipa_gate.specs.LogLaws.{IsLog-empty, IsFitting-shaped}
+use Rattle.ipa_gate.specs.LogLaws.{IsLog-empty}
 use Rattle.ipa_session.specs.Sessions.{SessionParts, IsSession, IsLawfulNext}
 use Rattle.ipa_session.specs.Holding.{IsHeld}
 
@@ -43,12 +43,12 @@ module _ (p : SessionParts) (setting : IsSetting p.setting) (is : IsSession p) (
   number : t.dot.number ≡ number_of t.dot.origin p.seen + 1
   number =
       let counted = clock.counts t.dot.origin in
-      let own = lawful.next.shaped.dot.own in
+      let own = lawful.next.shaped.own in
       omega (arith, counted, own)
 
   inside : t.dot.origin < 16
   inside =
-      let origin = lawful.next.shaped.dot.origin in
+      let origin = lawful.next.shaped.origin in
       let sessions = setting.few in
       omega (arith, origin, sessions)
 
@@ -57,7 +57,7 @@ module _ (p : SessionParts) (setting : IsSetting p.setting) (is : IsSession p) (
     room = few;
     origin = inside;
     number = number;
-    own = lawful.next.shaped.dot.own;
+    own = lawful.next.shaped.own;
     closed = clock-closed p.seen is.legal.history t.cut clock;
   }
 
@@ -69,7 +69,7 @@ module _ (p : SessionParts) (setting : IsSetting p.setting) (is : IsSession p) (
   session_next = record {
     origin = is.origin;
     legal = IsLegalHistory-push p.setting.spec p.setting.universe p.setting.base p.seen t is.legal follows
-        (IsFitting-shaped p.setting t lawful.next.shaped) lawful.legal;
+        lawful.next.shaped.fitting lawful.legal;
     shaped = λ u m. elim (member-append_cases p.seen (t ∷ []) u m) [
       | inl old ↦ is.shaped u old
       | inr new ↦ elim (member_cases t [] u new) [

@@ -11,7 +11,7 @@ use crate::decision::Decision;
 use crate::session::Session;
 use ipa_bounds::first_drop;
 use ipa_clock::Dot;
-use ipa_gate::{argument_count, reason_at};
+use ipa_gate::{argument_count, reason_within};
 use ipa_history::{Tx, facts_shown};
 use ipa_logic::{Request, drop_args};
 use ipa_spec::Action;
@@ -54,13 +54,14 @@ impl Session {
     // What it decides on an operation.
     fn decide_do(&self, op: u8, args: &[u16; 4]) -> Decision
         requires request { IsDo self.now.setting.spec self.now.setting.universe op args.now }
+        requires calm { (cut : TheCut) → IsClockOf self.now.seen cut → IsCalmAt self.now cut }
         ensures { (cut : TheCut) → IsClockOf self.now.seen cut →
             IsDecision self.now cut (Request.Do op args.now) result }
     {
         let spec = self.setting.accepted().spec();
         spec_is_fit(spec);
         let tx = self.next(Action::Op(op), *args);
-        match reason_at(
+        match reason_within(
             spec,
             self.setting.universe(),
             self.setting.base(),

@@ -5,7 +5,7 @@ ghost use Rattle.ipa_history.specs.Clocks.{IsClockOf};
 ghost use Rattle.ipa_history.specs.Histories.{IsMember, IsHistory};
 ghost use Rattle.ipa_history.specs.declared.history.Tx.{Tx as TheTx};
 ghost use Rattle.ipa_sets.specs.FactSets.{IsFactsOf, IsReadyFor};
-ghost use Rattle.ipa_gate.specs.Agreements.{HasAll, IsDivergence, news_of, IfDiverged};
+ghost use Rattle.ipa_gate.specs.Agreements.{HasAll, IsDivergence, news_of, IsReadTo, IfDiverged};
 ghost use Rattle.ipa_gate.specs.Settings.{IsLegalFor};
 ghost use Rattle.ipa_gate.specs.Shapes.{IsShaped};
 
@@ -30,8 +30,26 @@ impl Session {
         ensures setting { self.new.setting ≡ self.old.setting }
         ensures origin { self.new.origin ≡ self.old.origin }
     {
+        log.agrees(self.seen())?;
+        self.pull_from(log, 0)?;
+        Ok(())
+    }
+
+    /// The same where it has seen no transaction that is no entry, and has seen the first `read` entries. It looks at
+    /// the later entries alone. Then it has seen all entries.
+    pub fn pull_from(&mut self, log: &Log, read: u32) -> Result<(), AllocError>
+        requires setting { log.now.setting ≡ self.old.setting }
+        requires agrees { HasAll log.now.entries self.old.seen }
+        requires read { IsReadTo log.now.entries self.old.seen read }
+        ensures seen { OnOk result (self.new.seen ≡ self.old.seen ++ news_of log.now.entries self.old.seen) }
+        ensures all { OnOk result (HasAll self.new.seen log.now.entries) }
+        ensures kept { OnErr result (self.new.seen ≡ self.old.seen) }
+        ensures setting { self.new.setting ≡ self.old.setting }
+        ensures origin { self.new.origin ≡ self.old.origin }
+    {
         let _entries = log.entries();
-        let news = log.news(self.seen())?;
+        let cut = self.cut();
+        let news = log.news_from(self.seen(), &cut, read)?;
         self.absorb(&news)?;
         Ok(())
     }

@@ -1,22 +1,12 @@
 -- Facts that pass a test.
-use Rattle.std.proofs.Common.{◌≡◌, ℕ, ◌+◌, ◌<◌, Bool, true, false, ◌&&◌, ◌||◌, List, [], ◌∷◌, length, take, filter, find, refl, sym, ◌∙◌, ap, subst, Option}
+use Rattle.std.proofs.Common.{◌≡◌, ℕ, ◌+◌, ◌<◌, Bool, true, false, ◌&&◌, ◌||◌, List, [], ◌∷◌, length, take, refl, sym, ◌∙◌, ap}
 use Rattle.std.specs.Prelude.{slice_index_or}
 use Rattle.std.specs.Ordering.{is_eq}
 use Rattle.std.proofs.lemmas.List.{take_more}
-use Rattle.std.proofs.lemmas.List.Kept.{IsStrictlySortedBy-filter}
 use Rattle.ipa_logic.specs.Facts.{fact_cmp, has, IsRising}
 use Rattle.ipa_logic.specs.FactLaws.{has-append, same-turned, asked-same, same_rising}
-use Rattle.ipa_logic.specs.NextLaws.{next-same, next-found}
-use Rattle.ipa_logic.specs.Views.{is_left, IsNextOf}
 use Rattle.ipa_logic.specs.declared.facts.Fact.{Fact}
-use Rattle.ipa_sets.specs.Listings.{listed, has-passing, has-listed, rising-listed}
-
--- the next fact of a list in order that passes
-pub passing-next : (test : Fact → Bool) (s : List Fact) (p : ℕ) (after r : Option Fact) → IsRising s →
-    r ≡ find (is_left p after) (filter test s) → IsNextOf (λ f. has s f && test f) p after r
-passing-next test s p after r rises e = subst (IsNextOf (λ f. has s f && test f) p after) (sym e)
-    (next-same p after (has (filter test s)) (λ f. has s f && test f) (find (is_left p after) (filter test s))
-    (λ f l. has-passing test s f) (next-found p after (filter test s) (IsStrictlySortedBy-filter fact_cmp test s rises)))
+use Rattle.ipa_sets.specs.Listings.{listed, has-listed, rising-listed}
 
 keeps-true : (b old : Bool) → (b || old) ≡ ((b && true) || old)
 keeps-true true old = refl

@@ -6,7 +6,8 @@ use Rattle.std.specs.HashMap.{HashMap, get}
 use Rattle.std.specs.Option.{option_map_or}
 use Rattle.std.specs.Ordering.{is_eq}
 use Rattle.std.proofs.lemmas.Bool.{cases_eq, eqb-true, eq-eqb, false_from_ne_true, false≢true, and_from}
-use Rattle.std.proofs.lemmas.List.{get_or-set_same, get_or-set_other, take_more}
+use Rattle.std.proofs.lemmas.List.{get_or-replicate, get_or-set_same, get_or-set_other, take_more}
+use Rattle.std.proofs.lemmas.List.FromFn.{fill_by_all}
 use Rattle.ipa_spec.specs.declared.operations.Effect.{Effect}
 use Rattle.ipa_spec.specs.declared.specification.Specification.{Specification}
 use Rattle.ipa_logic.specs.Facts.{fact_cmp}
@@ -17,7 +18,7 @@ use Rattle.ipa_history.specs.declared.history.Tx.{Tx}
 use Rattle.ipa_sets.specs.KeyLaws.{key_eq-same, key_eq-itself, key_cmp-eq}
 use Rattle.ipa_sets.specs.Keys.{key_cmp, key_eq, key_of}
 use Rattle.ipa_sets.specs.Lasts.{tx_at}
-use Rattle.ipa_sets.specs.Rows.{no_row, has_row, row_in, later_row, last_of_keys, put_in}
+use Rattle.ipa_sets.specs.Rows.{no_row, has_row, row_in, later, later_row, last_of_keys, put_in}
 use Rattle.ipa_sets.specs.declared.keys.Key.{Key}
 
 -- a row with a transaction put into it
@@ -130,6 +131,16 @@ on-err (Err e) p = p
 fold-last : {A B : Type 0} (f : B → A → B) (b : B) (xs : List A) (x : A) → fold f b (xs ++ x ∷ []) ≡ f (fold f b xs) x
 fold-last f b [] x = refl
 fold-last f b (y ∷ ys) x = fold-last f (f b y) ys x
+
+later-none : (x : Option Tx) → x ≡ later x None
+later-none None = refl
+later-none (Some t) = refl
+
+-- with the row without a transaction it stays as it is
+pub later_row-none : (row : List (Option Tx)) → length row ≡ 16 → row ≡ later_row row no_row
+unfolding later_row
+later_row-none row wide = fill_by_all (λ (o : ℕ). later (tx_at row o) (tx_at no_row o)) row 16 None wide
+    (λ o less. later-none (tx_at row o) ∙ ap (later (tx_at row o)) (sym (get_or-replicate 16 o None None less)))
 
 pub keys-more : {S : Type 0} (table : HashMap Key (List (Option Tx)) S) (ks : List Key) (i : ℕ) (d : Key) (row next : List (Option Tx))
     → i < length ks → row ≡ last_of_keys table (take i ks) → next ≡ later_row row (row_in table (slice_index_or ks i d))

@@ -21,3 +21,4 @@ pub mod Numbers
 pub mod Places
 pub mod OriginLaws
 pub mod MaximalLaws
+pub mod FrontLaws

@@ -29,6 +29,7 @@ mod facts;
 mod filings;
 mod found_lasts;
 mod index;
+mod indexing;
 mod keys;
 mod known;
 mod lasts;

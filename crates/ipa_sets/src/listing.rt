@@ -1,5 +1,5 @@
 //! The next fact that passes a test, among those of two views.
-ghost use Rattle.std.specs.Prelude.{◌≡◌, ◌&&◌, ◌||◌, ℕ, Bool, Option, Some, OnOk};
+ghost use Rattle.std.specs.Prelude.{◌≡◌, ◌&&◌, ◌||◌, ℕ, Bool, Option, Some, OnOk, filter};
 ghost use Rattle.ipa_logic.specs.declared.facts.Fact.{Fact as TheFact};
 ghost use Rattle.std.specs.Ordering.{is_eq};
 ghost use Rattle.ipa_logic.specs.Facts.{fact_cmp, has, IsRising};
@@ -21,7 +21,45 @@ pub(crate) trait Test {
         ensures { result ≡ passes self.now fact.now };
 }
 
-/// The least fact of the predicate above `after` that is in one of the views and passes.
+/// The facts of two views.
+#[derive(Drop)]
+struct Both<'a, V: View, W: View> {
+    one: &'a V,
+    other: &'a W,
+}
+
+impl<'a, V: View, W: View> Both<'a, V, W> {
+    // Whether the fact is true in one of them.
+    fn has(&self, fact: &Fact) -> bool
+        ensures value { result ≡ (has (V.facts self.now.one.now) fact.now || has (W.facts self.now.other.now) fact.now) }
+        ensures one { IsRising (V.facts self.now.one.now) }
+        ensures other { IsRising (W.facts self.now.other.now) }
+    {
+        let one = self.one.holds(fact);
+        let other = self.other.holds(fact);
+        one || other
+    }
+}
+
+impl<'a, V: View, W: View> View for Both<'a, V, W> {
+    ghost use Rattle.ipa_sets.specs.Listings.{together};
+
+    ghost facts = { λ both. together (V.facts both.one.now) (W.facts both.other.now) };
+
+    fn holds(&self, fact: &Fact) -> bool {
+        self.has(fact)
+    }
+
+    fn next_true(&self, predicate: u8, after: Option<Fact>) -> Option<Fact> {
+        let first = self.one.next_true(predicate, after);
+        match self.other.next_true(predicate, after) {
+            Some(second) => Some(sooner(first, second)),
+            None => first,
+        }
+    }
+}
+
+/// The least fact of the predicate above `after` that is in one of the views and passes. No fact past it is tested.
 pub(crate) fn next_listed<T: Test, V: View, W: View>(
     test: &T,
     one: &V,
@@ -32,11 +70,7 @@ pub(crate) fn next_listed<T: Test, V: View, W: View>(
     ensures value { result ≡ next_fact (listed (T.passes test.now) (V.facts one.now) (W.facts other.now)) predicate after }
     ensures rising { IsRising (listed (T.passes test.now) (V.facts one.now) (W.facts other.now)) }
 {
-    let first = next_passing(test, one, predicate, after);
-    match next_passing(test, other, predicate, after) {
-        Some(second) => Some(sooner(first, second)),
-        None => first,
-    }
+    next_passing(test, &Both { one, other }, predicate, after)
 }
 
 // The least fact of the predicate above `after` that is in the view and passes.
@@ -46,8 +80,8 @@ fn next_passing<T: Test, V: View>(
     predicate: u8,
     after: Option<Fact>,
 ) -> Option<Fact>
-    ensures value { IsNextOf (λ f. has (V.facts view.now) f && T.passes test.now f) predicate after result }
-    ensures rising { IsRising (V.facts view.now) }
+    ensures value { result ≡ next_fact (filter (T.passes test.now) (V.facts view.now)) predicate after }
+    ensures rising { IsRising (filter (T.passes test.now) (V.facts view.now)) }
 {
     for fact in true_facts_after(view, predicate, after) {
         if test.passes(&fact) {

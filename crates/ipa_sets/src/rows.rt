@@ -202,9 +202,18 @@ fn last_of_keys(table: &HashMap<Key, [Option<Tx>; 16]>, keys: &[Key]) -> [Option
 {
     let mut row = [None; 16];
     for key in keys {
-        row = later_row(&row, &row_in(table, *key));
+        raise(&mut row, table, key);
     }
     row
+}
+
+// Makes each place of a row that of the later one, of it and of the row of a key.
+fn raise(row: &mut [Option<Tx>; 16], table: &HashMap<Key, [Option<Tx>; 16]>, key: &Key)
+    ensures { row.new ≡ later_row row.old (row_in table.now key.now) }
+{
+    if let Some(other) = table.get(key) {
+        *row = later_row(row, other);
+    }
 }
 
 // The last effect of an origin by its last transaction that adds the fact and its last that removes by a pattern over

@@ -1,5 +1,5 @@
 use Rattle.ipa_history.specs.Closings.{IsBelowIfCovered}
-use Rattle.ipa_gate.proofs.WalkLemmas.{UpTo}
+use Rattle.ipa_gate.specs.Fronts.{UpTo}
 use Rattle.ipa_gate.proofs.cuts.first_open.Given as goal
 
 abbrev pub invariant-loop-tx : goal.invariant-loop-tx

@@ -1,5 +1,5 @@
 use Rattle.ipa_history.specs.Histories.{IsMember}
-use Rattle.ipa_gate.proofs.WalkLemmas.{UpTo}
+use Rattle.ipa_gate.specs.Fronts.{UpTo}
 use Rattle.ipa_gate.proofs.pulls.first_parted.Given as goal
 
 abbrev pub invariant-loop-tx : goal.invariant-loop-tx

@@ -3,12 +3,12 @@ use Rattle.ipa_logic.specs.Facts.{has}
 use Rattle.ipa_logic.specs.Truth.{Keeps, IsFirstBroken}
 use Rattle.ipa_logic.specs.Touches.{plain_application}
 use Rattle.ipa_logic.specs.declared.facts.Fact.{Fact}
-use Rattle.ipa_gate.proofs.verdicts.reason_against.Goals as goal
+use Rattle.ipa_gate.proofs.verdicts.reason_besides.Goals as goal
 
 pub returns-in-Some-first_broken : goal.returns-in-Some-first_broken
 returns-in-Some-first_broken g c after is = record {
-  within_before = c.in_default.ensures.due;
-  needs = c.in_default-first_failing_need.ensures;
+  within_before = c.requires.within;
+  needs = c.in_default.ensures;
   first =
       let b = c.in-Some-first_broken.broken in
       let same : has after ≡ plain_application c.args.spec.now c.args.tx.now.action c.args.tx.now.args
@@ -19,8 +19,8 @@ returns-in-Some-first_broken g c after is = record {
 
 pub returns-in-Some-first_over : goal.returns-in-Some-first_over
 returns-in-Some-first_over g c after is = record {
-  within_before = c.in_default.ensures.due;
-  needs = c.in_default-first_failing_need.ensures;
+  within_before = c.requires.within;
+  needs = c.in_default.ensures;
   keeps =
       let same : has after ≡ plain_application c.args.spec.now c.args.tx.now.action c.args.tx.now.args
       (has (g.V.View.facts c.args.view.now)) = λ i f. is.facts f i in
@@ -31,8 +31,8 @@ returns-in-Some-first_over g c after is = record {
 
 pub returns : goal.returns
 returns g c after is = record {
-  within_before = c.in_default.ensures.due;
-  needs = c.in_default-first_failing_need.ensures;
+  within_before = c.requires.within;
+  needs = c.in_default.ensures;
   keeps =
       let same : has after ≡ plain_application c.args.spec.now c.args.tx.now.action c.args.tx.now.args
       (has (g.V.View.facts c.args.view.now)) = λ i f. is.facts f i in
