@@ -12,3 +12,12 @@ pub mod Giving
 pub mod Receiving
 pub mod Gone
 pub mod Passing
+pub mod Planning
+pub mod Fewer
+pub mod Nearer
+pub mod Taking
+pub mod Asked
+pub mod Beginning
+pub mod Closing
+pub mod Walking
+pub mod Scheduling

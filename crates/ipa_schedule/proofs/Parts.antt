@@ -114,7 +114,7 @@ part_session r i after of turn =
     part_along r turn.pulled after one (part_along turn.pulled turn.calmed after two three)
 
 -- the two replicas are there still
-link_stays : (w after : WorldParts) (from to : ℕ) → IsLater w after → IsLink w from to → IsLink after from to
+pub link_stays : (w after : WorldParts) (from to : ℕ) → IsLater w after → IsLink w from to → IsLink after from to
 link_stays w after from to later link =
     let same = later.replicas in
     let sends = link.sends in

@@ -167,11 +167,11 @@ carried_shaped s few fit t shaped =
     let count = shaped.count in
     let most = fit.argument_count t.action in
     record {
-      origin = let inside = shaped.dot.origin in omega (arith, inside, few);
-      number = let above = shaped.dot.number in omega (arith, above);
-      action = action_fits s.spec fit t.action shaped.declared;
+      origin = let inside = shaped.origin in omega (arith, inside, few);
+      number = let above = shaped.number in omega (arith, above);
+      action = action_fits s.spec fit t.action shaped.fitting.declared;
       count = omega (arith, count, most);
-      unused = λ place past. shaped.arguments.unused place (omega (arith, past, count));
+      unused = λ place past. shaped.fitting.arguments.unused place (omega (arith, past, count));
     }
 
 -- the entries whose frames these are

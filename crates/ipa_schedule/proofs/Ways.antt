@@ -158,7 +158,7 @@ entries_of_actor w i seat log seat_at log_at =
     ∙ ap (λ (o : Option (List Tx)). unwrap_or o []) log_at
 
 -- a session stands in one way
-not_calm : (w : WorldParts) (i : ℕ) (a b : Actor) → IsActor w i a → IsActor w i b →
+pub not_calm : (w : WorldParts) (i : ℕ) (a b : Actor) → IsActor w i a → IsActor w i b →
     IsCalmAt (session_at w.setting i a.seat) a.cut → (t : Tx) → IsDueNext (session_at w.setting i b.seat) b.cut t → ⊥
 not_calm w i a b one two calm t due =
     let both : Some b.seat ≡ Some a.seat = sym two.seat_at ∙ one.seat_at in

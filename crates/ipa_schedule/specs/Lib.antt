@@ -6,3 +6,7 @@ pub mod Draws
 pub mod Running
 pub mod Forecasts
 pub mod Sending
+pub mod Plans
+pub mod Remaining
+pub mod Runs
+pub mod Reached

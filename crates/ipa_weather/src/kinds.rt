@@ -45,8 +45,9 @@ fn split_numbers(word: &str) -> Option<(u32, u32)>
     Some((short_number_of(from)?, short_number_of(to)?))
 }
 
-/// The number of 64 bits that is written so, without a needless zero before it.
-fn number_of(digits: &str) -> Option<u64>
+/// The number of 64 bits that the digits write, in decimal and without a needless zero before it. `None` exactly where
+/// they write none. Takes no memory.
+pub fn number_of(digits: &str) -> Option<u64>
     ensures { MatchOption result ((n : ℕ) → n < 2 ^ 64 → digits.now ≢ decimal n) (λ n. (n < 2 ^ 64) × (digits.now ≡ decimal n)) }
 {
     if !begins_as_number(digits.as_bytes()) {

@@ -22,7 +22,7 @@ mod weather;
 
 pub use arrivals::{Arrived, pass_all, pass_one};
 pub use clear::Clear;
-pub use kinds::{Kind, kind_of};
+pub use kinds::{Kind, kind_of, number_of};
 pub use lossy::Lossy;
 pub use script::Script;
 pub use split::Split;

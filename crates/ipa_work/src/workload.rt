@@ -1,5 +1,5 @@
 //! The text of a workload, printed from its first line to its last.
-ghost use Rattle.std.specs.Prelude.{◌≡◌, ℕ, ◌++◌, ◌<◌, ◌^◌, codes, OnOk, IfOk};
+ghost use Rattle.std.specs.Prelude.{◌≡◌, ℕ, ◌++◌, ◌<◌, ◌≤◌, ◌^◌, length, codes, OnOk, IfOk};
 ghost use Rattle.std.specs.Fmt.{decimal};
 ghost use Rattle.rand_pcg.specs.Lcg.{started, increment_of};
 ghost use Rattle.rand_pcg.specs.Pcg.{multiplier_64};
@@ -16,9 +16,10 @@ use std::alloc::{AllocError, Global};
 const REQUESTS: u64 = 100;
 
 /// The text of the workload of this number: the tournament with 4 to 16 players and 1 to 3 cups, 1 to 3 replicas, and 2
-/// to 5 sessions of 100 requests each.
+/// to 5 sessions of 100 requests each. It has at most 32768 bytes.
 pub fn generate(alloc: Global, number: u64) -> Result<Vec<u8>, AllocError>
-    ensures { IfOk result (λ bytes. bytes.items ≡ workload number) }
+    ensures text { IfOk result (λ bytes. bytes.items ≡ workload number) }
+    ensures short { IfOk result (λ bytes. length bytes.items ≤ 32768) }
 {
     let mut page = Page::new(alloc);
     print_setup(&mut page, number)?;

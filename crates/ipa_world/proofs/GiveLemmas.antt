@@ -1,5 +1,6 @@
 -- A world is given a transaction that one of its logs has.
 --
+--   log_at            the log of a replica stands in its place
 --   givable_here      it can be given to the log of a replica
 --   full_here         it is too much for a log that has no room
 --   given_here        the replica is given it
@@ -33,7 +34,7 @@ module _ (s : SettingParts) (logs : List LogParts) (seats : List Seat) (peers : 
   lawful_here : IsLawful w
   lawful_here = subst (λ (x : WorldParts). IsLawful x) view standing.lawful
 
-  log_at : slice_get logs to ≡ Some log
+  pub log_at : slice_get logs to ≡ Some log
   log_at = at_index logs to log (
       let size = length-map logs entries_of in
       let same : length (map entries_of logs) ≡ length w.logs = ap (λ (x : WorldParts). length x.logs) view in

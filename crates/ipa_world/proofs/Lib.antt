@@ -1,5 +1,6 @@
 pub mod EndLemmas
 pub mod GiveLemmas
+pub mod PlaceLemmas
 pub mod ReceiveLemmas
 pub mod SeatLemmas
 pub mod StandingLemmas

@@ -5,7 +5,8 @@
 --   AreLogged-push     and it is one of the setting
 --   seats_next         one more session that has seen nothing
 --   AreSeated-push     and it is one of the setting
---   AreLogged-none, AreSeated-none      none stand at first
+--   AreUnread-push     which has read nothing
+--   AreLogged-none, AreUnread-none, AreSeated-none      none stand at first
 --   room_none          logs without entries have room
 --   seats_many         there are as many sessions as works were taken
 use Rattle.std.proofs.Common.{◌≡◌, ℕ, suc, zero, ◌+◌, ◌<◌, ◌≤◌, List, [], ◌∷◌, ◌++◌, length, map, take, replicate, Some, None, slice_get, sym, ◌∙◌, ap, subst, arith}
@@ -17,6 +18,7 @@ use Rattle.ipa_gate.specs.Settings.{SettingParts}
 use Rattle.ipa_world.specs.Worlds.{seat_of}
 use Rattle.ipa_world.specs.Seats.{seat_parts}
 use Rattle.ipa_world.specs.Standing.{entries_of, AreLogged, IsSeated, AreSeated}
+use Rattle.ipa_world.specs.Places.{AreUnread}
 use Rattle.ipa_world.specs.declared.seats.Seat.{Seat}
 
 -- what holds of each item of a list, and of one more at its end
@@ -62,9 +64,18 @@ AreSeated-push s seats seat are is = record {
   each = λ k x at. each_push (λ n (l : Seat). IsSeated s n l) seats seat are.each is k x at;
 }
 
+-- which has read nothing
+pub AreUnread-push : (seats : List Seat) (seat : Seat) → AreUnread seats → seat.read ≡ 0 → AreUnread (seats ++ seat ∷ [])
+AreUnread-push seats seat are none = record {
+  each = λ k x at. each_push (λ n (l : Seat). l.read ≡ 0) seats seat are.each none k x at;
+}
+
 -- none stand at first
 pub AreLogged-none : (s : SettingParts) → AreLogged s []
 AreLogged-none s = record { each = λ k x at. absurd (let none : None ≡ Some x = at in cc) }
+
+pub AreUnread-none : AreUnread []
+AreUnread-none = record { each = λ k x at. absurd (let none : None ≡ Some x = at in cc) }
 
 pub AreSeated-none : (s : SettingParts) → AreSeated s []
 AreSeated-none s = record { each = λ k x at. absurd (let none : None ≡ Some x = at in cc) }

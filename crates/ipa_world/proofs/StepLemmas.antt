@@ -2,7 +2,7 @@
 --
 --   by_result       what follows of an answer, whether it is a fault or not
 --   In the world of these parts, for its session i, and the log of its replica:
---     replica_within, log_setting, is_placed, is_open, fit     how they stand in it
+--     seat_at, log_at, replica_within, log_setting, is_placed, is_open, fit     how they stand in it
 --     pulled_here, same_seat, standing_pull     what the world is once the session has pulled
 --     acted_here, same_both, standing_act       and once it has acted
 --   For a link:
@@ -28,6 +28,7 @@ use Rattle.ipa_world.specs.Seats.{seat_parts, IsPlaced, placed, IsOpenTo}
 use Rattle.ipa_world.specs.Standing.{entries_of, world_of, AreLogged, IsSeated, AreSeated, IsStanding}
 use Rattle.ipa_world.specs.OfferLaws.{open_to}
 use Rattle.ipa_world.proofs.StandingLemmas.{at_index, mapped_at, room_with, world_with, changed, changed_seat, AreLogged-set, AreSeated-set, standing_with}
+use Rattle.ipa_world.proofs.PlaceLemmas.{peer_at}
 use Rattle.ipa_world.specs.declared.seats.Seat.{Seat}
 
 -- what follows of an answer, whether it is a fault or not
@@ -69,7 +70,7 @@ module _ (s : SettingParts) (logs : List LogParts) (seats : List Seat) (peers : 
     many : length seats ≡ length w.seats
     many = sym (length-map seats seat_parts) ∙ ap (λ (x : WorldParts). length x.seats) view
 
-    seat_at : slice_get seats i ≡ Some seat
+    pub seat_at : slice_get seats i ≡ Some seat
     seat_at = at_index seats i seat (let m = many in omega (arith, inside, m)) value
 
     is_seated : IsSeated s i seat
@@ -94,7 +95,7 @@ module _ (s : SettingParts) (logs : List LogParts) (seats : List Seat) (peers : 
         ((standing.lawful.answered i (seat_parts seat) there).fit place request at)
 
     module _ (log : LogParts) (log_value : log ≡ slice_index_or logs seat.replica log) where
-      log_at : slice_get logs seat.replica ≡ Some log
+      pub log_at : slice_get logs seat.replica ≡ Some log
       log_at = at_index logs seat.replica log replica_within log_value
 
       log_there : slice_get (map entries_of logs) seat.replica ≡ Some log.entries
@@ -199,12 +200,7 @@ module _ (s : SettingParts) (logs : List LogParts) (seats : List Seat) (peers : 
       (value : known ≡ slice_index_or peers (8 * from + to) known) (clock new : Cut) (heard : new ≡ joined known clock)
     where
       known_at : slice_get peers (link_of from to) ≡ Some known
-      known_at = at_index peers (link_of from to) known (
-          let senders = standing.lawful.senders in
-          let few = lawful_here.logs.few in
-          let sends = link.sends in
-          let receives = link.receives in
-          omega (arith, senders, few, sends, receives)) value
+      known_at = peer_at s logs seats peers w view standing from to link.sends link.receives known value
 
       -- has heard
       pub heard_here : IsHeard w from to clock (world_of s logs seats (slice_set peers (link_of from to) new))

@@ -17,14 +17,13 @@ use Rattle.ipa_history.specs.Histories.{IsMember, IsHistory, members_of}
 use Rattle.ipa_history.specs.Values.{value_of}
 use Rattle.ipa_history.specs.Clocks.{clock-members}
 use Rattle.ipa_history.specs.PushLaws.{at_place}
-use Rattle.ipa_history.specs.LawfulEnds.{IsAt, IsReading, IsEntered, IsNamedBy, AreEntries, AreAnswered, AreRead, AreAnswers, IsLawfulEnd}
+use Rattle.ipa_history.specs.LawfulEnds.{IsShaped, IsAt, IsReading, IsEntered, IsNamedBy, AreEntries, AreAnswered, AreRead, AreAnswers, IsLawfulEnd}
 use Rattle.ipa_history.specs.Answers.{IsAnswer}
 use Rattle.ipa_history.specs.declared.history.Tx.{Tx}
 use Rattle.ipa_history.specs.declared.outcomes.Outcome.{Outcome}
 use Rattle.ipa_lift.specs.CutLaws.{value-same}
 use Rattle.ipa_gate.specs.Agreements.{HasAll}
 use Rattle.ipa_gate.specs.Logs.{IsLog}
-use Rattle.ipa_gate.specs.LogLaws.{IsFitting-shaped}
 use Rattle.ipa_world.specs.Worlds.{SeatParts, WorldParts}
 use Rattle.ipa_world.specs.Steps.{Actor, IsActor, IsCalm}
 use Rattle.ipa_world.specs.Lawful.{IsOutcomeOf, IsLawful, AreSame, HasNoneLeft}
@@ -145,15 +144,7 @@ module _ (w : WorldParts) (is : IsLawful w) (same : AreSame w.logs) (done : HasN
   entries_are = record {
     legal = log_is.legal;
     few = log_is.few;
-    shaped = λ t m.
-        let shaped = log_is.shaped t m in record {
-          origin = let inside = shaped.dot.origin in omega (arith, inside, counted);
-          others = λ o past. shaped.others.none o (omega (arith, past, counted));
-          number = shaped.dot.number;
-          own = shaped.dot.own;
-          fitting = IsFitting-shaped w.setting t shaped;
-          count = shaped.count;
-        };
+    shaped = λ t m. subst (λ (n : ℕ). IsShaped w.setting.spec w.setting.universe n t) (sym counted) (log_is.shaped t m);
   }
 
   are_answered : AreAnswered requests outcomes

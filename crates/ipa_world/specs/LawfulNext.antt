@@ -23,7 +23,7 @@ use Rattle.ipa_lift.specs.FollowLaws.{IsLegalHistory-push}
 use Rattle.ipa_gate.specs.Settings.{IsLegalFor}
 use Rattle.ipa_gate.specs.Shapes.{IsShaped}
 use Rattle.ipa_gate.specs.Logs.{IsLog, most}
-use Rattle.ipa_gate.specs.LogLaws.{IsLog-push, IsFitting-shaped}
+use Rattle.ipa_gate.specs.LogLaws.{IsLog-push}
 use Rattle.ipa_gate.specs.Offers.{IsNextIn, IsAdmitted}
 use Rattle.ipa_session.specs.Sessions.{IsLawfulNext}
 use Rattle.ipa_world.specs.Worlds.{WorldParts, session_at}
@@ -93,7 +93,7 @@ module _ (w : WorldParts) (is : IsLawful w) (i : ℕ) (a : Actor) (actor : IsAct
     made-one fits = record {
       is_log = IsLog-push w.setting is.setting.few a.log t log_is admitted;
       legal = IsLegalHistory-push w.setting.spec w.setting.universe w.setting.base a.seat.seen t
-          has_seen.session.legal follows (IsFitting-shaped w.setting t lawful.next.shaped) lawful.legal;
+          has_seen.session.legal follows lawful.next.shaped.fitting lawful.legal;
       shaped = λ u m. elim (member-append_cases a.seat.seen (t ∷ []) u m) [
         | inl old ↦ has_seen.session.shaped u old
         | inr new ↦ elim (member_cases t [] u new) [
@@ -117,11 +117,11 @@ module _ (w : WorldParts) (is : IsLawful w) (i : ℕ) (a : Actor) (actor : IsAct
         follows = record {
           room = let less = no_longer a.log a.seat.seen history (seen_lies w is i a actor) in omega (arith, less, room);
           origin =
-              let inside = lawful.next.shaped.dot.origin in
+              let inside = lawful.next.shaped.origin in
               let few = is.setting.few in
               omega (arith, inside, few);
           number = number ∙ ap (λ (o : ℕ). number_of o a.seat.seen + 1) (sym origin);
-          own = lawful.next.shaped.dot.own;
+          own = lawful.next.shaped.own;
           closed = subst (λ (c : Cut). IsClosed a.seat.seen c) (sym lawful.next.cut) closed_seen;
         }
 
@@ -144,14 +144,13 @@ module _ (w : WorldParts) (is : IsLawful w) (i : ℕ) (a : Actor) (actor : IsAct
       dot = refl;
       cut = refl;
       shaped = record {
-        dot = record { origin = has_seen.session.origin; number = omega arith; own = refl };
-        others = record {
-          none = λ o past. actor.clock.counts o ∙ past_sessions a.seat.seen history w.setting.sessions
-              (λ t m. (has_seen.session.shaped t m).dot.origin) o past;
-        };
-        declared = asked.declared;
+        origin = has_seen.session.origin;
+        others = λ o past. actor.clock.counts o ∙ past_sessions a.seat.seen history w.setting.sessions
+            (λ t m. (has_seen.session.shaped t m).origin) o past;
+        number = omega arith;
+        own = refl;
+        fitting = record { declared = asked.declared; arguments = asked.arguments };
         count = refl;
-        arguments = asked.arguments;
       };
     };
     legal = legal;

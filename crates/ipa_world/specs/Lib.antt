@@ -19,6 +19,7 @@ pub mod SenderLaws
 pub mod WorldLaws
 pub mod Seats
 pub mod Standing
+pub mod Places
 pub mod OneVerdict
 pub mod Arrivals
 pub mod OfferLaws

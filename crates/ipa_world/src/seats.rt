@@ -7,18 +7,19 @@ ghost use Rattle.ipa_logic.specs.declared.facts.Request.{Request as TheRequest};
 ghost use Rattle.ipa_history.specs.Answers.{IsAnswer};
 ghost use Rattle.ipa_history.specs.Clocks.{IsClockOf};
 ghost use Rattle.ipa_history.specs.declared.history.Tx.{Tx as TheTx};
-ghost use Rattle.ipa_gate.specs.Agreements.{HasAll, news_of};
+ghost use Rattle.ipa_gate.specs.Agreements.{HasAll, IsReadTo};
 ghost use Rattle.ipa_gate.specs.Logs.{most};
 ghost use Rattle.ipa_session.specs.Sessions.{IsLawfulNext, IsCalmAt, IsDecision};
 ghost use Rattle.ipa_world.specs.Worlds.{WorldParts, with_seat, next_request};
 ghost use Rattle.ipa_world.specs.Steps.{IsPulled, IsAct};
 ghost use Rattle.ipa_world.specs.Room.{IsActFull};
 ghost use Rattle.ipa_world.specs.Seats.{seat_parts, IsPlaced, placed, IsOpenTo};
+ghost use Rattle.ipa_world.specs.Places.{IsLonger};
 
 use crate::giving::give;
 use crate::steps::WorldFault;
 use ipa_clock::Cut;
-use ipa_gate::{Log, PullFault};
+use ipa_gate::Log;
 use ipa_history::{Answer, Outcome, Tx};
 use ipa_logic::Request;
 use ipa_session::{Decision, Session};
@@ -35,6 +36,8 @@ pub(crate) struct Seat {
     pub(crate) requests: List<Request>,
     // What it has seen.
     pub(crate) session: Session,
+    // How many of the first entries of its replica's log it is known to have seen.
+    pub(crate) read: u32,
     // What its first requests were answered.
     pub(crate) outcomes: List<Outcome>,
 }
@@ -47,19 +50,25 @@ impl Seat {
         self.requests.get(self.outcomes.len())
     }
 
-    // Sees what the log of its replica has beyond it.
+    // Sees what the log of its replica has beyond it. It looks at the entries alone that it has not read.
     pub(crate) fn pull(&mut self, log: &Log) -> Result<(), WorldFault>
         requires setting { log.now.setting ≡ self.old.session.setting }
         requires has { HasAll log.now.entries self.old.session.seen }
+        requires read { IsReadTo log.now.entries self.old.session.seen self.old.read }
         ensures pulled { (w : WorldParts) → IsPlaced w self.old log.now →
             OnOk result (IsPulled w self.old.session.origin (with_seat w self.old.session.origin (seat_parts self.new))) }
+        ensures read { IsReadTo log.now.entries self.new.session.seen self.new.read }
         ensures full { result ≡ Err WorldFault.Full → ⊥ }
         ensures unchanged { OnErr result (seat_parts self.new ≡ seat_parts self.old) }
         ensures setting { self.new.session.setting ≡ self.old.session.setting }
         ensures origin { self.new.session.origin ≡ self.old.session.origin }
+        ensures replica { self.new.replica ≡ self.old.replica }
     {
         let _cut = self.session.cut();
-        pull_all(&mut self.session, log)
+        self.session.pull_from(log, self.read)?;
+        let entries = log.entries();
+        self.read = entries.len();
+        Ok(())
     }
 
     // Acts: it makes the drop that is due; where none is, its next request is answered.
@@ -80,6 +89,9 @@ impl Seat {
         ensures setting { self.new.session.setting ≡ self.old.session.setting }
         ensures origin { self.new.session.origin ≡ self.old.session.origin }
         ensures replica { self.new.replica ≡ self.old.replica }
+        ensures read { self.new.read ≡ self.old.read }
+        ensures sees { IsLonger self.old.session.seen self.new.session.seen }
+        ensures grows { IsLonger log.old.entries log.new.entries }
     {
         let _cut = self.session.cut();
         match self.session.next_drop() {
@@ -107,6 +119,9 @@ impl Seat {
         ensures setting { self.new.session.setting ≡ self.old.session.setting }
         ensures origin { self.new.session.origin ≡ self.old.session.origin }
         ensures replica { self.new.replica ≡ self.old.replica }
+        ensures read { self.new.read ≡ self.old.read }
+        ensures sees { IsLonger self.old.session.seen self.new.session.seen }
+        ensures grows { IsLonger log.old.entries log.new.entries }
     {
         let cut = self.session.cut();
         let Some(request) = self.next_request().copied() else {
@@ -139,28 +154,12 @@ impl Seat {
         ensures origin { self.new.session.origin ≡ self.old.session.origin }
         ensures replica { self.new.replica ≡ self.old.replica }
         ensures requests { self.new.requests ≡ self.old.requests }
+        ensures read { self.new.read ≡ self.old.read }
     {
         let mut outcomes = mem::replace(&mut self.outcomes, List::new(alloc)).into_vec();
         let made = commit_with(&mut outcomes, &mut self.session, log, tx);
         self.outcomes = List::from_vec(outcomes);
         made
-    }
-}
-
-// Sees all that the log has beyond it, which has all that the session has seen.
-fn pull_all(session: &mut Session, log: &Log) -> Result<(), WorldFault>
-    requires setting { log.now.setting ≡ session.old.setting }
-    requires has { HasAll log.now.entries session.old.seen }
-    ensures seen { OnOk result (session.new.seen ≡ session.old.seen ++ news_of log.now.entries session.old.seen) }
-    ensures full { result ≡ Err WorldFault.Full → ⊥ }
-    ensures stays { OnErr result (session.new.seen ≡ session.old.seen) }
-    ensures setting { session.new.setting ≡ session.old.setting }
-    ensures origin { session.new.origin ≡ session.old.origin }
-{
-    match session.pull(log) {
-        Ok(()) => Ok(()),
-        Err(PullFault::NoMemory) => Err(WorldFault::NoMemory),
-        Err(PullFault::Diverged(_)) => unreachable!(),
     }
 }
 

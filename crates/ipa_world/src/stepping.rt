@@ -106,6 +106,9 @@ impl World {
         let link = 8 * from as usize + to as usize;
         let sender = &mut self.senders[link];
         sender.heard(clock);
+        let known = sender.peer_has();
+        let log = &self.logs[from as usize];
+        self.covered[link] = log.covered_to(&known, self.covered[link]);
     }
 }
 

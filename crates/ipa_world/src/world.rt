@@ -11,6 +11,7 @@ ghost use Rattle.ipa_reader.specs.declared.sessions.SessionWork.{SessionWork as 
 ghost use Rattle.ipa_world.specs.Worlds.{seat_of};
 ghost use Rattle.ipa_world.specs.Seats.{seat_parts};
 ghost use Rattle.ipa_world.specs.Standing.{entries_of, AreLogged, IsSeated, AreSeated};
+ghost use Rattle.ipa_world.specs.Places.{AreUnread};
 
 use crate::seats::Seat;
 use ipa_gate::{Log, Setting};
@@ -32,17 +33,20 @@ pub struct World {
     pub(crate) seats: Vec<Seat>,
     // The sender from replica a to replica b has the place 8a + b.
     pub(crate) senders: Vec<Sender>,
+    // For each of these links, how many of the first entries of its sender's log its receiver is known to have.
+    pub(crate) covered: [u32; 64],
 }
 
 impl Model for World {
     ghost use Rattle.ipa_world.specs.Worlds.{WorldParts};
-    ghost use Rattle.ipa_world.specs.Standing.{world_of, IsStanding};
+    ghost use Rattle.ipa_world.specs.Standing.{world_of};
+    ghost use Rattle.ipa_world.specs.Places.{IsHeld};
 
     ghost Value = { WorldParts };
 
     ghost view = { λ a. world_of a.setting a.logs.items a.seats.items a.senders.items };
 
-    ghost invariant = { λ a. IsStanding a.setting a.logs.items a.seats.items a.senders.items };
+    ghost invariant = { λ a. IsHeld a.setting a.logs.items a.seats.items a.senders.items a.covered };
 }
 
 impl World {
@@ -67,6 +71,7 @@ impl World {
             logs,
             seats,
             senders,
+            covered: [0; 64],
         })
     }
 
@@ -143,7 +148,8 @@ impl World {
             slice_get self.now.peers (link_of from to) ≡ Some known → IfOk result (λ batch. batch ≡ beyond_of log known) }
     {
         let link = 8 * from as usize + to as usize;
-        self.senders[link].batch(&self.logs[from as usize])
+        let known = self.senders[link].peer_has();
+        self.logs[from as usize].beyond_from(&known, self.covered[link])
     }
 }
 
@@ -176,6 +182,7 @@ fn new_seats(
     requires { length sessions.now ≡ setting.now.sessions }
     ensures parts { IfOk result (λ seats. map seat_parts seats.items ≡ map seat_of sessions.now) }
     ensures seated { IfOk result (λ seats. AreSeated setting.now seats.items) }
+    ensures unread { IfOk result (λ seats. AreUnread seats.items) }
 {
     let few = setting.sessions();
     let mut seats = Vec::new(alloc);
@@ -196,11 +203,13 @@ fn new_seat(
     requires { origin < setting.now.sessions }
     ensures parts { IfOk result (λ seat. seat_parts seat ≡ seat_of work.now) }
     ensures seated { IfOk result (λ seat. IsSeated setting.now origin seat) }
+    ensures unread { IfOk result (λ seat. seat.read ≡ 0) }
 {
     Ok(Seat {
         replica: work.replica,
         requests: List::from_vec(work.requests.as_slice().to_vec(alloc)?),
         session: Session::new(alloc, setting.copy()?, origin)?,
+        read: 0,
         outcomes: List::new(alloc),
     })
 }

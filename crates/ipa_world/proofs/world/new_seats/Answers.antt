@@ -4,8 +4,9 @@ use Rattle.ipa_reader.specs.declared.sessions.SessionWork.{SessionWork}
 use Rattle.ipa_world.specs.Worlds.{seat_of}
 use Rattle.ipa_world.specs.Seats.{seat_parts}
 use Rattle.ipa_world.specs.Standing.{IsSeated, AreSeated}
+use Rattle.ipa_world.specs.Places.{AreUnread}
 use Rattle.ipa_world.specs.declared.seats.Seat.{Seat}
-use Rattle.ipa_world.proofs.StartLemmas.{seats_next, AreSeated-push}
+use Rattle.ipa_world.proofs.StartLemmas.{seats_next, AreSeated-push, AreUnread-push}
 use Rattle.ipa_world.proofs.world.new_seats.Goals as goal
 
 pub loop-work-preserved : goal.loop-work-preserved
@@ -26,4 +27,7 @@ loop-work-preserved c =
           (AreSeated-push c.args.setting.now c.loop-work.seats.items c.in_ok-new_seat.field-0
           c.loop-work.invariant.seated (subst (λ (k : ℕ). IsSeated c.args.setting.now k c.in_ok-new_seat.field-0) many
           c.in_ok-new_seat.ensures.seated));
+      unread = subst (λ (xs : List Seat). AreUnread xs) (sym c.in_ok-push.ensures.items)
+          (AreUnread-push c.loop-work.seats.items c.in_ok-new_seat.field-0 c.loop-work.invariant.unread
+          c.in_ok-new_seat.ensures.unread);
     }

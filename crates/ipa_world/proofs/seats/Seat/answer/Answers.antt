@@ -1,4 +1,4 @@
-use Rattle.std.proofs.Common.{◌≡◌, Some, None, subst}
+use Rattle.std.proofs.Common.{◌≡◌, [], ◌∷◌, Some, None, refl, subst}
 use Rattle.ipa_session.specs.Sessions.{IsDecision}
 use Rattle.ipa_session.specs.declared.decision.Decision.{Decision}
 use Rattle.ipa_session.specs.declared.decision.Decision.TheVariants.{Commit, Refused, Shown}
@@ -6,6 +6,7 @@ use Rattle.ipa_history.specs.declared.answers.Answer.TheVariants.{Refused as Dec
 use Rattle.ipa_world.specs.Worlds.{WorldParts, next_request}
 use Rattle.ipa_world.specs.Steps.{IsAct}
 use Rattle.ipa_world.specs.Seats.{seat_parts}
+use Rattle.ipa_world.proofs.PlaceLemmas.{longer_same, longer_by}
 use Rattle.ipa_world.proofs.SeatLemmas.{on_ok, on_ok3, always, refused_none, shown_none, decided_cut, placed_same, placed_here, committed_at, told_at, resting_at, full_commit, room_some, room_told, room_resting}
 use Rattle.ipa_world.proofs.seats.Seat.answer.Goals as goal
 
@@ -94,3 +95,35 @@ returns-in-Shown-clause-room c w is =
     (c.requires.calm c.cut-cut.result c.cut-cut.ensures) c.in-Some.request (Told c.in-Shown.state) next
     (shown_none w.setting.spec c.args.self.now.session.origin c.cut-cut.result c.in-Some.request c.in-Shown.state)
     decision.answer)
+
+pub returns-in_default-clause-sees : goal.returns-in_default-clause-sees
+returns-in_default-clause-sees c = longer_same c.args.self.now.session.seen c.args.self.now.session.seen refl
+
+pub returns-in_default-clause-grows : goal.returns-in_default-clause-grows
+returns-in_default-clause-grows c = longer_same c.args.log.now.entries c.args.log.now.entries refl
+
+pub returns-in_err-tx-clause-sees : goal.returns-in_err-tx-clause-sees
+returns-in_err-tx-clause-sees c = longer_same c.args.self.now.session.seen c.args.self.now.session.seen refl
+
+pub returns-in_err-tx-clause-grows : goal.returns-in_err-tx-clause-grows
+returns-in_err-tx-clause-grows c = longer_same c.args.log.now.entries c.args.log.now.entries refl
+
+pub returns-in-Refused-clause-sees : goal.returns-in-Refused-clause-sees
+returns-in-Refused-clause-sees c = longer_same c.args.self.now.session.seen c.args.self.now.session.seen refl
+
+pub returns-in-Refused-clause-grows : goal.returns-in-Refused-clause-grows
+returns-in-Refused-clause-grows c = longer_same c.args.log.now.entries c.args.log.now.entries refl
+
+pub returns-in-Shown-clause-sees : goal.returns-in-Shown-clause-sees
+returns-in-Shown-clause-sees c = longer_same c.args.self.now.session.seen c.args.self.now.session.seen refl
+
+pub returns-in-Shown-clause-grows : goal.returns-in-Shown-clause-grows
+returns-in-Shown-clause-grows c = longer_same c.args.log.now.entries c.args.log.now.entries refl
+
+pub returns-in-Commit-clause-sees : goal.returns-in-Commit-clause-sees
+returns-in-Commit-clause-sees c = longer_by c.commit.result c.args.self.now.session.seen c.commit.new.self.session.seen
+    (c.in-Commit.tx ∷ []) c.commit.ensures.seen c.commit.ensures.seen_stays
+
+pub returns-in-Commit-clause-grows : goal.returns-in-Commit-clause-grows
+returns-in-Commit-clause-grows c = longer_by c.commit.result c.args.log.now.entries c.commit.new.log.entries
+    (c.in-Commit.tx ∷ []) c.commit.ensures.entries c.commit.ensures.log_stays

@@ -1,0 +1,5 @@
+use Rattle.std.specs.Prelude.{◌≡◌, length}
+use Rattle.ipa_schedule_tests.proofs.tests.take_turns.Given as goal
+
+abbrev pub invariant-loop-turn : goal.invariant-loop-turn
+invariant-loop-turn g l = length l.weathers.items ≡ 64
