@@ -1,4 +1,0 @@
-pub mod VerdictLemmas
-pub mod StepLemmas
-pub mod AnswerLemmas
-pub mod RepairLemmas

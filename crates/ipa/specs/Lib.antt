@@ -1,5 +1,1 @@
-pub mod Statuses
-pub mod Verdicts
-pub mod Answers
-pub mod Steps
 pub mod Commands

@@ -2,30 +2,23 @@
 //!
 //! `check` reads a document from standard input and prints `accepted`, or the report of all conflicts and unsafe
 //! drops, or the line of a refusal. `repair` prints the steps of the greedy repair of such a document and the
-//! specification that comes out, or `stuck` and the report of what is left. `check_command` and `repair_command` are
-//! these commands over any source and sink: their answer is the verdict on the bytes that the source held, and each
-//! fault that they answer in place of it has its cause. `ipa_main` picks the command by the words. The program ends
-//! with the number of the answered status.
+//! specification that comes out, or `stuck` and the report of what is left. `audit` reads a document and the journal of
+//! a run behind it, and prints that the journal is legal, or its first bad line. `migrate` writes such a journal in the
+//! latest version. Each command is a call over any source and sink: its answer is the verdict on the bytes that the
+//! source held, and each fault that it answers in place of it has its cause. `ipa_main` picks the command by the words.
+//! The program ends with the number of the answered status.
 //!
 //! ```
 //! ipa check < examples/exclusive_cup.ipa
 //! ```
 #![tactic(auto)]
 
-mod answers;
-mod checking;
 mod commands;
-mod edges;
-mod judging;
-mod repairing;
-mod status;
-mod verdict_laws;
 
-pub use checking::check_command;
 pub use commands::{Command, command_of, ipa_main};
-pub use repairing::repair_command;
-pub use status::Status;
-pub use verdict_laws::one_verdict;
+pub use ipa_command::Status;
+pub use ipa_document_commands::{check_command, one_verdict, repair_command};
+pub use ipa_journal_commands::{audit_command, migrate_command};
 
 #[cfg(test)]
 mod tests;

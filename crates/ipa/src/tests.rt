@@ -134,7 +134,7 @@ fn no_words_are_answered_by_the_usage_line(rt: HostRuntime) -> Result<(), Fail> 
     assert_eq!(rt; status.number(), 2);
     assert_eq!(rt;
         sink.bytes(),
-        b"usage: ipa check | repair | simulate NUMBER [WEATHER] | simulate --generate NUMBER | audit | run [WEATHER]\n".as_slice()
+        b"usage: ipa check | repair | simulate NUMBER [WEATHER] | simulate --generate NUMBER | audit | migrate | run [WEATHER]\n".as_slice()
     );
     Ok(())
 }
@@ -174,6 +174,20 @@ fn the_word_repair_prints_steps_and_what_they_lead_to(rt: HostRuntime) -> Result
         assert_eq!(rt; status, wanted);
         let text = format!(in alloc; "{steps}{end}")?;
         assert_eq!(rt; sink.bytes(), text.as_bytes());
+    }
+    Ok(())
+}
+
+#[test]
+fn the_words_audit_and_migrate_ask_for_a_journal(rt: HostRuntime) -> Result<(), Fail> {
+    let alloc = rt.alloc();
+    for word in ["audit", "migrate"] {
+        let words = vec![in alloc; word.to_string(alloc)?]?;
+        let mut source = MemorySource::new(Vec::new(alloc), 4096, Vec::new(alloc));
+        let mut sink = MemorySink::new(alloc, 4096, Vec::new(alloc));
+        let status = ipa_main(&rt, alloc, &words, &mut source, &mut sink);
+        assert_eq!(rt; status, Status::Refused);
+        assert_eq!(rt; sink.bytes(), b"refused: journal line 1\n".as_slice());
     }
     Ok(())
 }

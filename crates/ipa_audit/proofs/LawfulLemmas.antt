@@ -36,27 +36,12 @@ use Rattle.ipa_audit.proofs.OrderLemmas.{own_count, placed_lines, few_lines}
 -- the shape that a log asks for is that of a lawful end
 pub shaped_end : (s : SettingParts) (n : ℕ) → s.sessions ≡ n → (t : Tx) → IsShaped s t →
     ends.IsShaped s.spec s.universe n t
-shaped_end s n same t shaped =
-    let origin = shaped.dot.origin in record {
-      origin = omega (arith, origin, same);
-      others = λ o l. shaped.others.none o (omega (arith, l, same));
-      number = shaped.dot.number;
-      own = shaped.dot.own;
-      fitting = record { declared = shaped.declared; arguments = shaped.arguments };
-      count = shaped.count;
-    }
+shaped_end s n same t shaped = subst (λ (k : ℕ). ends.IsShaped s.spec s.universe k t) same shaped
 
 -- and the other way
 pub end_shaped : (s : SettingParts) (n : ℕ) → s.sessions ≡ n → (t : Tx) → ends.IsShaped s.spec s.universe n t →
     IsShaped s t
-end_shaped s n same t shaped =
-    let origin = shaped.origin in record {
-      dot = record { origin = omega (arith, origin, same); number = shaped.number; own = shaped.own };
-      others = record { none = λ o l. shaped.others o (omega (arith, l, same)) };
-      declared = shaped.fitting.declared;
-      count = shaped.count;
-      arguments = shaped.fitting.arguments;
-    }
+end_shaped s n same t shaped = subst (λ (k : ℕ). ends.IsShaped s.spec s.universe k t) (sym same) shaped
 
 module _ (s : SettingParts) (requests : List (List Request)) (h : List Tx) (outs : List OutLine) where
   abbrev outcomes : List (List Outcome)
@@ -162,7 +147,7 @@ module _ (s : SettingParts) (requests : List (List Request)) (h : List Tx) (outs
       read = read;
       answers = answers;
       named = λ t op m action.
-          let origin = (log.shaped t m).dot.origin in
+          let origin = (log.shaped t m).origin in
           named_by t (complete.named.each t op m action) (omega (arith, origin, same));
       last_facts = final;
     }
@@ -216,7 +201,7 @@ module _ (s : SettingParts) (requests : List (List Request)) (h : List Tx) (outs
   pub complete_missing : AreGood s requests h outs → s.sessions ≡ length requests → IsLog s h →
       IsComplete requests h outs → IsMissing requests h outs → ⊥
   complete_missing good same log complete = none_missing complete.answered.each (λ t op m action.
-      let origin = (log.shaped t m).dot.origin in
+      let origin = (log.shaped t m).origin in
       named_by good t (complete.named.each t op m action) (omega (arith, origin, same)))
 
   module _ (order : AreInOrder requests outs) (last : List Fact)

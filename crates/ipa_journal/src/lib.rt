@@ -39,4 +39,4 @@ pub use reading::read_journal;
 pub use standing::{Place, Standing, Version};
 pub use starts::{JournalStart, journal_start};
 pub use transactions::Done;
-pub use writing::{write_content, write_journal};
+pub use writing::{write_content, write_journal, write_reason};

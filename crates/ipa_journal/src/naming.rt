@@ -177,7 +177,7 @@ fn push_broken(
 }
 
 /// Why an operation was refused.
-fn push_reason(
+pub(crate) fn push_reason(
     alloc: Global,
     pieces: &mut List<Piece>,
     spec: &Spec,

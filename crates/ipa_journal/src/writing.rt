@@ -1,15 +1,16 @@
 //! Writing journals, in version 2.
 ghost use Rattle.std.specs.Prelude.{◌≡◌, ◌<◌, ◌≤◌, ◌^◌, [], ◌∷◌, ◌++◌, IfOk, OnOk, length};
 ghost use Rattle.std.specs.List.{flat_map};
+ghost use Rattle.ipa_journal.specs.Naming.{reason_pieces};
 ghost use Rattle.ipa_journal.specs.Pieces.{text_of};
 ghost use Rattle.ipa_journal.specs.declared.pieces.Piece.TheVariants.{Key, Number};
 ghost use Rattle.ipa_journal.specs.Texts.{answers_text, content_text, end_text, head_text, out_line_text, outcomes_text, tail_text, tx_line_text, tx_text};
 
 use crate::journal::{Journal, OutLine, TxLine};
 use crate::keywords::Keyword;
-use crate::naming::{bounds_pieces, final_pieces, out_pieces, tx_pieces};
+use crate::naming::{bounds_pieces, final_pieces, out_pieces, push_reason, tx_pieces};
 use crate::pieces::{Piece, write_line};
-use ipa_history::{History, Outcome, Tx};
+use ipa_history::{History, Outcome, Reason, Tx};
 use ipa_logic::State;
 use ipa_reader::Setup;
 use ipa_spec::{List, Name, Spec};
@@ -276,4 +277,20 @@ pub fn write_content(
     )?;
     write_tail(alloc, &mut page, spec, elements, &journal.last)?;
     Vec::from_slice(alloc, page.bytes())
+}
+
+/// Prints why a transaction is not legal, as a journal names it, and ends the line. `elements` are the lists of the
+/// names of elements, one for each sort.
+pub fn write_reason(
+    alloc: Global,
+    page: &mut Page,
+    spec: &Spec,
+    elements: &List<List<Name>>,
+    reason: &Reason,
+) -> Result<(), AllocError>
+    ensures { OnOk result (page.new ≡ page.old ++ text_of (reason_pieces spec.now elements.now reason.now)) }
+{
+    let mut pieces = List::new(alloc);
+    push_reason(alloc, &mut pieces, spec, elements, reason)?;
+    write_line(page, &pieces)
 }

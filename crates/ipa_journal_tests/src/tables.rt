@@ -97,6 +97,55 @@ end
 "
 }
 
+/// A setup and a journal of two sessions, of which the second takes the place twice.
+pub(crate) fn legal() -> &'static str {
+    "\
+replicas 2
+session 1
+do enroll(ann,open)
+show enrolled(*,*)
+show enrolled(*,*)
+session 2
+do enroll(bob,open)
+do enroll(bob,open)
+journal 1
+sessions 2
+tx 1 1 cut 0 0 do enroll(ann,open)
+tx 2 1 cut 0 0 do enroll(bob,open)
+tx 1 2 cut 1 1 drop cap(bob,open)
+tx 2 2 cut 0 1 do enroll(bob,open)
+tx 1 3 cut 2 2 drop cap(bob,open)
+out 1 1 cut 0 0 commit 1
+out 1 2 cut 2 1 shown enrolled(ann,open)
+out 1 3 cut 3 2 shown enrolled(ann,open)
+out 2 1 cut 0 0 commit 1
+out 2 2 cut 0 1 commit 2
+final enrolled(ann,open)
+end
+"
+}
+
+/// A line of the race behind its head, what stands in its place, and what the audit prints then.
+pub(crate) fn damaged() -> &'static str {
+    "\
+tx 1 2 cut 1 1 drop cap(bob,open)>tx 1 2 cut 1 0 drop cap(bob,open)=bad line 20: illegal drop
+|\
+end>=refused: journal line 27
+|\
+tx 2 1 cut 0 0 do enroll(bob,open)>tx 1 1 cut 0 0 do enroll(ann,open)=bad line 19: repeated
+|\
+final enrolled(ann,open)>final none=bad line 26: final
+|\
+tx 1 1 cut 0 0 do enroll(ann,open)>=bad line 19: gap
+|\
+out 1 2 cut 2 1 shown enrolled(ann,open)>out 1 2 cut 1 1 shown enrolled(ann,open)=bad line 23: outcome
+|\
+out 2 2 cut 1 2 shown enrolled(ann,open)>=bad line 25: missing
+|\
+bound cap enrolled(p,t) counts p most 1>bound cap enrolled(p,t) counts p most 1 youngest=refused: journal line 16
+"
+}
+
 /// A setup and a journal of version 2 with each reason of a refusal, behind the document that makes its player known.
 pub(crate) fn known() -> &'static str {
     "\

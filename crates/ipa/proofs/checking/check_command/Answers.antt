@@ -1,8 +1,0 @@
-use Rattle.ipa.specs.Statuses.{is_of_input}
-use Rattle.ipa.specs.Verdicts.{CheckVerdict}
-use Rattle.ipa.proofs.AnswerLemmas.{answers-input, of_input}
-use Rattle.ipa.proofs.checking.check_command.Goals as goal
-
-pub returns : goal.returns
-returns g c =
-    answers-input is_of_input of_input CheckVerdict _ _ c.answer_of-ended.result c.write_answer.result c.answer_of-ended.ensures c.write_answer.ensures.written c.write_answer.ensures.count

@@ -1,0 +1,17 @@
+//! The law of verdicts. The function does nothing: what it ensures is the law.
+ghost use Rattle.std.specs.Prelude.{◌≡◌, ℕ, List};
+ghost use Rattle.ipa_document_commands.specs.Checks.{CheckVerdict};
+ghost use Rattle.ipa_command.specs.declared.status.Status.{Status};
+
+use ipa_pairs::{one_analysis, one_refusal};
+use ipa_reader::{document_faultless, one_reading};
+
+/// An input has one verdict of `check`: one status, with one text.
+pub fn one_verdict()
+    ensures { (bytes text other : List ℕ) (status end : Status) → CheckVerdict bytes status text → CheckVerdict bytes end other → (status ≡ end) × (text ≡ other) }
+{
+    one_reading();
+    document_faultless();
+    one_analysis();
+    one_refusal();
+}

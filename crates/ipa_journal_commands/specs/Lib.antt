@@ -1,0 +1,4 @@
+pub mod AuditTexts
+pub mod Journals
+pub mod Audits
+pub mod Migrations
