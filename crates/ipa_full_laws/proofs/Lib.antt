@@ -1,0 +1,7 @@
+mod Placed
+mod Counted
+mod Stuck
+mod Kept
+mod Overfull
+mod Fullness
+mod Documents
