@@ -1,7 +1,7 @@
 -- A transaction is legal or not, and there is one first reason why it is not. So a request has one answer at a cut.
 --
 --   legal_illegal     what is legal has no reason
---   one_reason        an operation has one first reason
+--   one_reason        what is not legal has one first reason
 --   one_state         a test of facts has one state
 --   one_answer        a request has one answer
 use Rattle.std.proofs.Common.{◌≡◌, ℕ, zero, suc, ◌<◌, Bool, false, List, [], ◌∷◌, ◌++◌, length, Some, refl, sym, ◌∙◌, ap, subst, arith, inl, inr}
@@ -25,7 +25,7 @@ use Rattle.ipa_logic.specs.declared.facts.Request.{Request}
 use Rattle.ipa_logic.specs.declared.facts.Request.TheVariants.{Do, Show}
 use Rattle.ipa_history.specs.Histories.{members_of}
 use Rattle.ipa_history.specs.Values.{value_of}
-use Rattle.ipa_history.specs.Legality.{IsLegalAs, IsReasonAs, IsOperationReason, IsLegal, IsIllegal}
+use Rattle.ipa_history.specs.Legality.{IsLegalAs, IsReasonAs, IsOperationReason, IsDropReason, IsLegal, IsIllegal}
 use Rattle.ipa_history.specs.Answers.{next_operation, IsAnswerOfDo, IsAnswer}
 use Rattle.ipa_history.specs.declared.history.Tx.{Tx}
 use Rattle.ipa_history.specs.declared.answers.Answer.{Answer}
@@ -161,6 +161,27 @@ module _ (s : Specification) (universe : Universe) (t : Tx) (before after : List
   one_reason_between (Over n) NotTheDrop a b = absurd b
   one_reason_between NotTheDrop q a b = absurd a
 
+  -- a drop has one first reason between two states
+  one_drop_reason : (n : ℕ) (members : List Tx) (r q : Reason) → IsDropReason s universe n members t before after r →
+      IsDropReason s universe n members t before after q → r ≡ q
+  one_drop_reason n members (NotWithin m) q a b = absurd a
+  one_drop_reason n members (Need k) q a b = absurd a
+  one_drop_reason n members (Over m) q a b = absurd a
+  one_drop_reason n members (Breaks x) (Breaks y) a b =
+      ap Breaks (one_broken s universe (has after) x y a.first b.first)
+  one_drop_reason n members (Breaks x) NotTheDrop a b = absurd (b a.due)
+  one_drop_reason n members NotTheDrop (Breaks y) a b = absurd (a b.due)
+  one_drop_reason n members NotTheDrop NotTheDrop a b = refl
+  one_drop_reason n members r (NotWithin m) a b = absurd b
+  one_drop_reason n members r (Need k) a b = absurd b
+  one_drop_reason n members r (Over m) a b = absurd b
+
+  -- so has a transaction, by its action
+  one_reason_as : (action : Action) (members : List Tx) (r q : Reason) →
+      IsReasonAs action s universe members t before after r → IsReasonAs action s universe members t before after q → r ≡ q
+  one_reason_as (Op n) members r q a b = one_reason_between r q a b
+  one_reason_as (Drop n) members r q a b = one_drop_reason n members r q a b
+
   -- what is legal between two states has no reason there
   legal_reason : (action : Action) (members : List Tx) (r : Reason) → IsLegalAs action s universe members t before after →
       IsReasonAs action s universe members t before after r → ⊥
@@ -188,36 +209,34 @@ module _ (s : Specification) (universe : Universe) (base : List Fact) (h : List 
       (subst (λ (x : List Fact). IsReasonAs t.action s universe (members_of h t.cut) t x illegal.after r) before
       illegal.reason))
 
-  -- an operation has one first reason
-  pub one_reason : (t : Tx) (n : ℕ) (r q : Reason) → t.action ≡ Op n → IsIllegal s universe base h t r →
-      IsIllegal s universe base h t q → r ≡ q
-  one_reason t n r q action a b =
+  -- what is not legal has one first reason
+  pub one_reason : (t : Tx) (r q : Reason) → IsIllegal s universe base h t r → IsIllegal s universe base h t q → r ≡ q
+  one_reason t r q a b =
       let before : a.before ≡ b.before = one_state (value_of s base (members_of h t.cut)) a.before b.before
       a.state_before b.state_before in
       let after : a.after ≡ b.after = one_state (value_of s base (members_of h t.cut ++ t ∷ [])) a.after b.after
       a.state_after b.state_after in
-      one_reason_between s universe t b.before b.after r q
-      (subst (λ (x : List Fact). IsOperationReason s universe t b.before x r) after
-      (subst (λ (x : List Fact). IsOperationReason s universe t x a.after r) before
-      (subst (λ (x : Action). IsReasonAs x s universe (members_of h t.cut) t a.before a.after r) action a.reason)))
-      (subst (λ (x : Action). IsReasonAs x s universe (members_of h t.cut) t b.before b.after q) action b.reason)
+      one_reason_as s universe t b.before b.after t.action (members_of h t.cut) r q
+      (subst (λ (x : List Fact). IsReasonAs t.action s universe (members_of h t.cut) t b.before x r) after
+      (subst (λ (x : List Fact). IsReasonAs t.action s universe (members_of h t.cut) t x a.after r) before a.reason))
+      b.reason
 
-  one_answer_do : (t : Tx) (n : ℕ) → t.action ≡ Op n → (one other : Answer) → IsAnswerOfDo s universe base h t one →
+  one_answer_do : (t : Tx) (one other : Answer) → IsAnswerOfDo s universe base h t one →
       IsAnswerOfDo s universe base h t other → one ≡ other
-  one_answer_do t n action (Commit k) (Commit j) a b = ap Commit (a.numbered ∙ sym b.numbered)
-  one_answer_do t n action (Commit k) (Refused q) a b = absurd (legal_illegal t q a.legal b)
-  one_answer_do t n action (Commit k) (Shown x) a b = absurd b
-  one_answer_do t n action (Refused r) (Commit k) a b = absurd (legal_illegal t r b.legal a)
-  one_answer_do t n action (Refused r) (Refused q) a b = ap Refused (one_reason t n r q action a b)
-  one_answer_do t n action (Refused r) (Shown x) a b = absurd b
-  one_answer_do t n action (Shown x) other a b = absurd a
+  one_answer_do t (Commit k) (Commit j) a b = ap Commit (a.numbered ∙ sym b.numbered)
+  one_answer_do t (Commit k) (Refused q) a b = absurd (legal_illegal t q a.legal b)
+  one_answer_do t (Commit k) (Shown x) a b = absurd b
+  one_answer_do t (Refused r) (Commit k) a b = absurd (legal_illegal t r b.legal a)
+  one_answer_do t (Refused r) (Refused q) a b = ap Refused (one_reason t r q a b)
+  one_answer_do t (Refused r) (Shown x) a b = absurd b
+  one_answer_do t (Shown x) other a b = absurd a
 
   -- a request has one answer
   pub one_answer : (cut : Cut) (origin : ℕ) (request : Request) (one other : Answer) →
       IsAnswer s universe base h cut origin request one → IsAnswer s universe base h cut origin request other →
       one ≡ other
   one_answer cut origin (Do op args) one other a b =
-      one_answer_do (next_operation s cut origin op args) op refl one other a b
+      one_answer_do (next_operation s cut origin op args) one other a b
   one_answer cut origin (Show predicate places) (Shown x) (Shown y) a b = ap Shown (one_state _ x y a b)
   one_answer cut origin (Show predicate places) (Shown x) (Commit k) a b = absurd b
   one_answer cut origin (Show predicate places) (Shown x) (Refused q) a b = absurd b

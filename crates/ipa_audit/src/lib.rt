@@ -4,7 +4,7 @@
 //! and the answer that its request has there, and the final facts by the state where all transactions are known.
 //! [`audit`] answers `Legal` exactly where the journal's end is lawful for the sessions' requests and its outcomes stand
 //! in order, and else the first bad line with its fault. [`law_one_answer`] says why a line can be wrong at all: a
-//! request has one answer at a cut.
+//! request has one answer at a cut. [`law_one_reason`] says that a transaction is refused for one reason.
 //!
 //! ```
 //! match audit(alloc, setting, &setup, &journal)? {
@@ -26,5 +26,5 @@ mod outcomes;
 mod verdict;
 
 pub use auditing::audit;
-pub use laws::{law_bad_is_unlawful, law_one_answer};
+pub use laws::{law_bad_is_unlawful, law_one_answer, law_one_reason};
 pub use verdict::{AuditFault, Verdict};

@@ -4,12 +4,13 @@
 --   start-at        it begins within the input
 --   start-line      at a line whose number fits
 --   verdict-of_input    the status of an audit is one that an input can have
+--   item_of         the item of which something is a part
 --   asked-each      each request of a document fits its setting
 use Rattle.std.proofs.Common.{◌≡◌, ◌∙◌, Option, Some, None, map, slice_get, ◌+◌, ◌≤◌, ◌<◌, ◌^◌, ℕ, Bool, true, false, refl, List, [], ◌∷◌, ◌++◌, length, sym, subst, arith, if◌then◌else◌}
 use Rattle.std.specs.List.{All, count_by}
 use Rattle.std.specs.Option.{option_map}
 use Rattle.std.proofs.lemmas.List.Elements.{All-head, All-tail}
-use Rattle.std.proofs.lemmas.Option.{slice_get-map, same_Some}
+use Rattle.std.proofs.lemmas.Option.{none-some, slice_get-map, same_Some}
 use Rattle.std.proofs.lemmas.List.Sums.{count_by-le-length}
 use Rattle.ipa_text.specs.Bytes.{is_line_feed}
 use Rattle.ipa_text.specs.Lines.{IsLine, ends_open, lines_of, last_line}
@@ -80,15 +81,16 @@ pub verdict-of_input : (v : Verdict) → is_of_input (verdict_status v) ≡ true
 verdict-of_input (Legal n) = refl
 verdict-of_input (Bad line fault) = refl
 
--- the work of a session, of which these are the requests
-work_of : (o : Option SessionWork) (list : List Request) → option_map (λ (work : SessionWork). work.requests) o ≡ Some list → (work : SessionWork) × (o ≡ Some work) × (work.requests ≡ list)
-work_of None list e = cc
-work_of (Some work) list e = (work, refl, same_Some work.requests list e)
+-- the item of which this is the part
+pub item_of : {X Y : Type 0} (f : X → Y) (o : Option X) (y : Y) → option_map f o ≡ Some y →
+    (x : X) × (o ≡ Some x) × (f x ≡ y)
+item_of f None y e = absurd (none-some y e)
+item_of f (Some x) y e = (x, refl, same_Some (f x) y e)
 
 -- each request of a document fits its setting
 pub asked-each : (document : Document) → IsFitting document.spec document.setup.universe.sizes document.setup.elements document.setup.base document.setup.sessions → AreAsked (setting_of document) document.setup.sessions
 asked-each document fits = record {
   each = λ i j request at.
-      let w = work_of (slice_get document.setup.sessions i) at.list (sym (slice_get-map (λ (work : SessionWork). work.requests) document.setup.sessions i) ∙ at.list_at) in
+      let w = item_of (λ (work : SessionWork). work.requests) (slice_get document.setup.sessions i) at.list (sym (slice_get-map (λ (work : SessionWork). work.requests) document.setup.sessions i) ∙ at.list_at) in
       fits.requests i j w.0 request w.1 (subst (λ (list : List Request). slice_get list j ≡ Some request) (sym w.2) at.at);
 }

@@ -1,2 +1,3 @@
 pub mod JournalLemmas
 pub mod OneJournal
+pub mod OneAudit

@@ -1,6 +1,5 @@
 -- An input has one verdict, as far as the journal goes.
 --
---   AreOneJournal      there is one reading of a journal
 --   one-start          a journal begins at one place
 --   one-after_start, one-after_journal   these cases keep that there is one status and text
 --   one-migration      an input has one verdict of `migrate`
@@ -11,7 +10,7 @@ use Rattle.std.proofs.lemmas.Option.{same_Some}
 use Rattle.ipa_text.specs.declared.numbering.Line.{Line}
 use Rattle.ipa_text.specs.Lines.{line_text, lines_of}
 use Rattle.ipa_reader.specs.declared.document.Document.{Document}
-use Rattle.ipa_journal.specs.Readings.{Context, IsRefused, ReadsAs}
+use Rattle.ipa_journal.specs.Readings.{Context}
 use Rattle.ipa_journal.specs.Starts.{BeginsJournal, BeginsNone, IsStart, IsStartAt}
 use Rattle.ipa_journal.specs.Starts.IsStart.{at_line, nowhere}
 use Rattle.ipa_journal.specs.declared.journal.Journal.{Journal}
@@ -20,16 +19,10 @@ use Rattle.ipa_command.specs.Verdicts.{AfterReading}
 use Rattle.ipa_command.specs.VerdictLaws.{AreOne, IsOne, one-after_length, one-after_reading}
 use Rattle.ipa_command.specs.declared.status.Status.{Status}
 use Rattle.ipa_journal_commands.specs.AuditTexts.{unread_text}
-use Rattle.ipa_journal_commands.specs.Journals.{AfterJournal, AfterStart, IsUnread, context_at, longest_journal}
+use Rattle.ipa_journal_commands.specs.Journals.{AfterJournal, AfterStart, AreOneJournal, IsUnread, context_at, longest_journal}
 use Rattle.ipa_journal_commands.specs.Journals.AfterJournal.{unread, read}
 use Rattle.ipa_journal_commands.proofs.JournalLemmas.{middle}
 use Rattle.ipa_journal_commands.specs.Migrations.{IsDocumentMigrated, IsMigrated, IsMigrationOf, MigrateVerdict}
-
--- there is one reading of a journal
-pub record AreOneJournal : Type 0 where
-  pub journal : (c : Context) (bytes : List ℕ) (j k : Journal) → ReadsAs c bytes j → ReadsAs c bytes k → j ≡ k
-  pub line : (c : Context) (bytes : List ℕ) (n m : ℕ) → IsRefused c bytes n → IsRefused c bytes m → n ≡ m
-  pub apart : (c : Context) (bytes : List ℕ) (j : Journal) (n : ℕ) → ReadsAs c bytes j → IsRefused c bytes n → ⊥
 
 -- the lists have the same first item, and the same others
 same_head : (x y : Line) (xs ys : List Line) → x ∷ xs ≡ y ∷ ys → x ≡ y

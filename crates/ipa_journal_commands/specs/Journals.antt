@@ -6,6 +6,7 @@
 --   AfterStart bytes Later status text    the journal begins there; what comes later is this
 --   AfterJournal document start bytes Later status text   the bytes from there on have no reading as a journal; or what
 --                               comes later, for the journal that they read as, is this
+--   AreOneJournal               bytes have one reading as a journal at most: one journal, or one line that refuses them
 use Rattle.std.specs.Prelude.{◌≡◌, ℕ, List, length, drop}
 use Rattle.ipa_reader.specs.declared.document.Document.{Document}
 use Rattle.ipa_journal.specs.Readings.{Context, context_of, IsRefused, ReadsAs}
@@ -44,3 +45,9 @@ pub data AfterJournal (document : Document) (start : JournalStart) (bytes : List
       AfterJournal document start bytes Later status text
   read : (journal : Journal) → ReadsAs (context_at document start.line) (drop start.at bytes) journal →
       Later journal status text → AfterJournal document start bytes Later status text
+
+-- bytes have one reading as a journal at most: one journal, or one line that refuses them
+pub record AreOneJournal : Type 0 where
+  pub journal : (c : Context) (bytes : List ℕ) (j k : Journal) → ReadsAs c bytes j → ReadsAs c bytes k → j ≡ k
+  pub line : (c : Context) (bytes : List ℕ) (n m : ℕ) → IsRefused c bytes n → IsRefused c bytes m → n ≡ m
+  pub apart : (c : Context) (bytes : List ℕ) (j : Journal) (n : ℕ) → ReadsAs c bytes j → IsRefused c bytes n → ⊥

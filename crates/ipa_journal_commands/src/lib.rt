@@ -5,7 +5,7 @@
 //! `migrate` writes what the journal says in the latest version, and analyses nothing. Each is the verdict on the bytes
 //! that the source held (`specs/Audits.antt`, `specs/Migrations.antt`), and each fault that is answered in place of it
 //! has its cause: that is `AnswersInput`, the contract of all commands that read an input. An input has one verdict of
-//! `migrate` (`one_migration`).
+//! `audit` (`one_audit_verdict`) and one of `migrate` (`one_migration`).
 //!
 //! ```
 //! let status = audit_command(rt, alloc, &mut source, &mut sink);
@@ -21,4 +21,4 @@ mod verdict_laws;
 
 pub use auditing::audit_command;
 pub use migrating::migrate_command;
-pub use verdict_laws::one_migration;
+pub use verdict_laws::{one_audit_verdict, one_migration};
