@@ -9,8 +9,8 @@ use crate::runs::{Found, least_in_order};
 use ipa_logic::{Fact, View, true_facts};
 use ipa_spec::Bound;
 
-// The key of the fact's group: its elements in all places but the counted one, where 0 stands.
-pub(crate) fn key_of(bound: &Bound, fact: &Fact) -> [u16; 3]
+/// The key of the fact's group: its elements in all places but the counted one, where 0 stands.
+pub fn key_of(bound: &Bound, fact: &Fact) -> [u16; 3]
     ensures { result ≡ key_of bound.now fact.now }
 {
     let mut key = fact.args;
@@ -27,8 +27,9 @@ pub(crate) fn is_in_group(bound: &Bound, key: &[u16; 3], fact: &Fact) -> bool
     fact.predicate == bound.predicate && key_of(bound, fact).cmp(key).is_eq()
 }
 
-// Whether the group of this key has more facts than the bound allows.
-fn exceeds<V: View>(view: &V, bound: &Bound, key: &[u16; 3]) -> bool
+/// Whether the group of this key has more facts than the bound allows. It looks at facts of the group alone, and at few
+/// others.
+pub fn exceeds<V: View>(view: &V, bound: &Bound, key: &[u16; 3]) -> bool
     ensures { IsTrue result ↔ Exceeds bound.now key.now (V.facts view.now) }
 {
     let mut count = 0;

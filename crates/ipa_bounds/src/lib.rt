@@ -7,7 +7,8 @@
 //! asked of the view, an `AgedView`; in a `State` all facts are of one age. `first_over` is the first bound
 //! that a group exceeds after an action, judged without building the state after: its facts are asked of the
 //! view and of the action's effects. The choice of the bound and the group stands apart from the choice of the
-//! fact. Nothing here takes memory.
+//! fact. `key_of` and `exceeds` judge one group, for those who know which groups may have grown. Nothing here takes
+//! memory.
 //!
 //! ```
 //! if let Some(drop) = first_drop(&spec, &state) {
@@ -27,5 +28,6 @@ mod runs;
 
 pub use ages::AgedView;
 pub use drops::{DropOf, first_drop, within};
+pub use groups::{exceeds, key_of};
 pub use ipa_logic::Age;
 pub use over::first_over;
