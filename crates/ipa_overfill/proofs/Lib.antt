@@ -1,0 +1,2 @@
+mod OverfillLemmas
+mod AfterLemmas

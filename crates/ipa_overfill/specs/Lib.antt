@@ -1,0 +1,2 @@
+pub mod Overfills
+pub mod CalmLaws
