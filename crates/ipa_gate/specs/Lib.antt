@@ -3,6 +3,7 @@ pub mod Shapes
 pub mod Logs
 pub mod DueDrops
 pub mod Cuts
+pub mod Calms
 pub mod Keeping
 pub mod Verdicts
 pub mod Offers

@@ -2,6 +2,7 @@
 --
 --   IsFresh s h t        the transaction has the right shape, and no entry has its dot
 --   IsNextIn s h t       it is fresh, and its cut is a closed cut of the entries
+--   IsLegalIfNext s h t     it is legal at its cut, if it comes next
 --   IsAdmitted s h t     there is room, and it is legal at its cut
 --   entries_after h t taken     the entries after it was taken
 --   IsTakenAs s h t taken       the answer where it is taken
@@ -32,6 +33,10 @@ pub record IsFresh (s : SettingParts) (h : List Tx) (t : Tx) : Type 0 where
 pub record IsNextIn (s : SettingParts) (h : List Tx) (t : Tx) : Type 0 where
   pub fresh : IsFresh s h t
   pub closed : IsClosed h t.cut
+
+-- it is legal at its cut, if it comes next
+abbrev pub IsLegalIfNext : SettingParts → List Tx → Tx → Type 0
+IsLegalIfNext s h t = IsNextIn s h t → IsLegal s.spec s.universe s.base h t
 
 -- it comes next, there is room for it, and it is legal at its cut
 pub record IsAdmitted (s : SettingParts) (h : List Tx) (t : Tx) : Type 0 where

@@ -4,9 +4,11 @@
 //! A `Setting` is an accepted specification with a universe, a base and a number of sessions. A `Log` of it is a
 //! legal history, whatever was offered to it: `offer` appends a transaction that is new and legal at its own cut, knows
 //! one that it has, and refuses every other, by the first `OfferFault` that holds. A transaction is judged at its own
-//! cut alone, so two logs may take the same transactions in different orders. `test` answers what `offer` would, and
-//! makes the log ready, so that the offer takes no memory. `agrees`, `news` and `beyond` tell what the log has that
-//! others lack. By `law_log_keeps` every closed cut of a log keeps all clauses.
+//! cut alone, so two logs may take the same transactions in different orders. `admit` is an offer of a transaction that
+//! is known to be legal, which is not judged again. `test` answers what `offer` would, and makes the log ready, so that
+//! the offer takes no memory. `agrees`, `news` and `beyond` tell what the log has that others lack. `is_calm_at` tells
+//! whether the bounds hold at a cut, mostly in a time that does not grow with the number of true facts. By
+//! `law_log_keeps` every closed cut of a log keeps all clauses.
 //!
 //! ```
 //! let mut log = Log::new(alloc, setting);
@@ -17,6 +19,7 @@
 //! ```
 
 mod answers;
+mod calm;
 mod cuts;
 mod entries;
 mod laws;
@@ -28,6 +31,7 @@ mod shapes;
 mod verdicts;
 
 pub use answers::{Diverged, OfferFault, PullFault, Taken};
+pub use calm::is_calm_at;
 pub use laws::{law_drops_are_few, law_equal_cuts, law_log_keeps};
 pub use log::Log;
 pub use setting::Setting;

@@ -2,23 +2,25 @@
 //!
 //! An offer is judged by the entries alone, without memory, and only then the index grows. The state before is that
 //! at the transaction's own cut, as the index shows it; it keeps all clauses, so that only touched instances are
-//! tested. A drop that is due there is legal, and no clause is tested for it.
-ghost use Rattle.std.specs.Prelude.{◌≡◌, ◌↔◌, ℕ, [], ◌∷◌, ◌++◌, None, Some, Err, IsTrue, IfOk, IfErr, OnOk, OnErr, MatchOption};
+//! tested, and it mostly is known to be within the bounds by the last operation of the origin, so that only the groups
+//! of few facts are counted. A drop that is due there is legal, and no clause is tested for it.
+ghost use Rattle.std.specs.Prelude.{◌≡◌, ◌↔◌, ◌<◌, ℕ, [], ◌∷◌, ◌++◌, None, Some, Err, IsTrue, IfOk, IfErr, OnOk, OnErr, MatchOption};
 ghost use Rattle.ipa_logic.specs.declared.facts.Broken.{Broken as TheBroken};
 ghost use Rattle.ipa_history.specs.Histories.{IsNamedIn};
 ghost use Rattle.ipa_history.specs.Legality.{IsLegal, IsIllegal};
 ghost use Rattle.ipa_sets.specs.Indexes.{IsIndexOf, IsReadyFor};
 ghost use Rattle.ipa_gate.specs.Logs.{IsLog};
 ghost use Rattle.ipa_gate.specs.Verdicts.{IsAtCut};
-ghost use Rattle.ipa_gate.specs.Offers.{IsFresh, IsNextIn, IsAdmitted, entries_after, IsTakenAs, IsOfferFault};
+ghost use Rattle.ipa_gate.specs.Offers.{IsFresh, IsNextIn, IsLegalIfNext, IsAdmitted, entries_after, IsTakenAs, IsOfferFault};
 
 use crate::answers::{OfferFault, Taken};
+use crate::calm::is_known_calm;
 use crate::cuts::{first_gap, open_member};
 use crate::entries::{clock_of, entry_named, is_same};
 use crate::log::Log;
 use crate::setting::Setting;
 use crate::shapes::is_shaped;
-use crate::verdicts::reason_at;
+use crate::verdicts::{reason_at, reason_within};
 use ipa_history::{Reason, Tx};
 use ipa_logic::{State, Universe};
 use ipa_sets::Index;
@@ -44,10 +46,50 @@ impl Log {
         ensures drops { (n : ℕ) (broken : TheBroken) → tx.action ≡ Action.Drop n →
             result ≡ Err (OfferFault.Illegal (Reason.Clause broken)) → ⊥ }
     {
+        self.take(tx, false)
+    }
+
+    /// The same for a transaction that is known to be legal where it comes next, so that it is not judged.
+    pub fn admit(&mut self, tx: Tx) -> Result<Taken, OfferFault>
+        requires legal { IsLegalIfNext self.old.setting self.old.entries tx }
+        ensures taken { IfOk result (IsTakenAs self.old.setting self.old.entries tx) }
+        ensures entries { IfOk result (λ taken. self.new.entries ≡ entries_after self.old.entries tx taken) }
+        ensures refused { IfErr result (IsOfferFault self.old.setting self.old.entries tx) }
+        ensures unchanged { OnErr result (self.new.entries ≡ self.old.entries) }
+        ensures setting { self.new.setting ≡ self.old.setting }
+        ensures ready { self.new.ready ≡ None }
+
+        // The transaction that the log is ready for takes no memory.
+        ensures memory { self.old.ready ≡ Some tx → result ≡ Err OfferFault.NoMemory → ⊥ }
+
+        // A drop never breaks a clause.
+        ensures drops { (n : ℕ) (broken : TheBroken) → tx.action ≡ Action.Drop n →
+            result ≡ Err (OfferFault.Illegal (Reason.Clause broken)) → ⊥ }
+    {
+        self.take(tx, true)
+    }
+
+    // The same, where the flag says whether it is known to be legal.
+    fn take(&mut self, tx: Tx, is_legal: bool) -> Result<Taken, OfferFault>
+        requires legal { IsTrue is_legal → IsLegalIfNext self.old.setting self.old.entries tx }
+        ensures taken { IfOk result (IsTakenAs self.old.setting self.old.entries tx) }
+        ensures entries { IfOk result (λ taken. self.new.entries ≡ entries_after self.old.entries tx taken) }
+        ensures refused { IfErr result (IsOfferFault self.old.setting self.old.entries tx) }
+        ensures unchanged { OnErr result (self.new.entries ≡ self.old.entries) }
+        ensures setting { self.new.setting ≡ self.old.setting }
+        ensures ready { self.new.ready ≡ None }
+
+        // The transaction that the log is ready for takes no memory.
+        ensures memory { self.old.ready ≡ Some tx → result ≡ Err OfferFault.NoMemory → ⊥ }
+
+        // A drop never breaks a clause.
+        ensures drops { (n : ℕ) (broken : TheBroken) → tx.action ≡ Action.Drop n →
+            result ≡ Err (OfferFault.Illegal (Reason.Clause broken)) → ⊥ }
+    {
         let was_ready = is_ready(&self.ready, &tx);
         self.ready = None;
         drop_never_breaks(&self.setting, &self.index, &tx);
-        match judged(&self.setting, &self.index, &tx) {
+        match judged(&self.setting, &self.index, &tx, is_legal) {
             Ok(Taken::New) => {
                 if was_ready {
                     put(&self.setting, &mut self.index, &tx);
@@ -62,19 +104,20 @@ impl Log {
     }
 
     /// What an offer of the transaction would be answered. The entries stay as they are. After `Ok` the log is ready
-    /// for it, until the log is offered or tested for a transaction again.
+    /// for it, until the log is offered or tested for a transaction again; after `Err` it is ready for none.
     pub fn test(&mut self, tx: &Tx) -> Result<Taken, OfferFault>
         ensures taken { IfOk result (IsTakenAs self.old.setting self.old.entries tx.now) }
         ensures refused { IfErr result (IsOfferFault self.old.setting self.old.entries tx.now) }
         ensures entries { self.new.entries ≡ self.old.entries }
         ensures setting { self.new.setting ≡ self.old.setting }
         ensures ready { OnOk result (self.new.ready ≡ Some tx.now) }
+        ensures spent { OnErr result (self.new.ready ≡ None) }
         ensures drops { (n : ℕ) (broken : TheBroken) → tx.now.action ≡ Action.Drop n →
             result ≡ Err (OfferFault.Illegal (Reason.Clause broken)) → ⊥ }
     {
         self.ready = None;
         drop_never_breaks(&self.setting, &self.index, tx);
-        match judged(&self.setting, &self.index, tx) {
+        match judged(&self.setting, &self.index, tx, false) {
             Ok(Taken::New) => {
                 prepare(&self.setting, &mut self.index, tx)?;
                 self.ready = Some(*tx);
@@ -147,10 +190,12 @@ fn prepare(setting: &Setting, index: &mut Index, tx: &Tx) -> Result<(), AllocErr
     Ok(())
 }
 
-// What the offer of the transaction is answered, as far as memory allows.
-fn judged(setting: &Setting, index: &Index, tx: &Tx) -> Result<Taken, OfferFault>
+// What the offer of the transaction is answered, as far as memory allows. It is not judged where the flag says that it
+// is legal.
+fn judged(setting: &Setting, index: &Index, tx: &Tx, is_legal: bool) -> Result<Taken, OfferFault>
     requires log { IsLog setting.now index.now.entries }
     requires indexed { IsIndexOf setting.now.spec index.now }
+    requires legal { IsTrue is_legal → IsLegalIfNext setting.now index.now.entries tx.now }
     ensures taken { IfOk result (IsTakenAs setting.now index.now.entries tx.now) }
     ensures refused { IfErr result (IsOfferFault setting.now index.now.entries tx.now) }
     ensures memory { result ≡ Err OfferFault.NoMemory → ⊥ }
@@ -161,7 +206,7 @@ fn judged(setting: &Setting, index: &Index, tx: &Tx) -> Result<Taken, OfferFault
     if !is_shaped(setting, tx) {
         return Err(OfferFault::Shape);
     }
-    judged_fresh(setting, index, tx)
+    judged_fresh(setting, index, tx, is_legal)
 }
 
 // The same where this entry has its dot.
@@ -185,10 +230,16 @@ fn judged_named(setting: &Setting, index: &Index, here: &Tx, tx: &Tx) -> Result<
 }
 
 // The same where it has the right shape and no entry has its dot.
-fn judged_fresh(setting: &Setting, index: &Index, tx: &Tx) -> Result<Taken, OfferFault>
+fn judged_fresh(
+    setting: &Setting,
+    index: &Index,
+    tx: &Tx,
+    is_legal: bool,
+) -> Result<Taken, OfferFault>
     requires log { IsLog setting.now index.now.entries }
     requires indexed { IsIndexOf setting.now.spec index.now }
     requires fresh { IsFresh setting.now index.now.entries tx.now }
+    requires legal { IsTrue is_legal → IsLegalIfNext setting.now index.now.entries tx.now }
     ensures taken { IfOk result (IsTakenAs setting.now index.now.entries tx.now) }
     ensures refused { IfErr result (IsOfferFault setting.now index.now.entries tx.now) }
     ensures memory { result ≡ Err OfferFault.NoMemory → ⊥ }
@@ -205,20 +256,29 @@ fn judged_fresh(setting: &Setting, index: &Index, tx: &Tx) -> Result<Taken, Offe
     if let Some(open) = open_member(setting, index, &tx.cut) {
         return Err(OfferFault::OpenCut { member: open.dot });
     }
-    judged_next(setting, index, tx)
+    judged_next(setting, index, tx, is_legal)
 }
 
 // The same where its cut is closed too.
-fn judged_next(setting: &Setting, index: &Index, tx: &Tx) -> Result<Taken, OfferFault>
+fn judged_next(
+    setting: &Setting,
+    index: &Index,
+    tx: &Tx,
+    is_legal: bool,
+) -> Result<Taken, OfferFault>
     requires log { IsLog setting.now index.now.entries }
     requires indexed { IsIndexOf setting.now.spec index.now }
     requires next { IsNextIn setting.now index.now.entries tx.now }
+    requires legal { IsTrue is_legal → IsLegalIfNext setting.now index.now.entries tx.now }
     ensures taken { IfOk result (IsTakenAs setting.now index.now.entries tx.now) }
     ensures refused { IfErr result (IsOfferFault setting.now index.now.entries tx.now) }
     ensures memory { result ≡ Err OfferFault.NoMemory → ⊥ }
 {
     if index.history().len() >= 65536 {
         return Err(OfferFault::Full);
+    }
+    if is_legal {
+        return Ok(Taken::New);
     }
     match reason_at_cut(setting, index, tx) {
         None => Ok(Taken::New),
@@ -250,9 +310,15 @@ fn reason_between(
 ) -> Option<Reason>
     requires indexed { IsIndexOf spec.now index.now }
     requires at { IsAtCut spec.now universe.now.sizes base.now index.now.entries tx.now }
+    requires origin { tx.now.dot.origin < 16 }
     ensures { MatchOption result (IsLegal spec.now universe.now.sizes base.now index.now.entries tx.now)
         (IsIllegal spec.now universe.now.sizes base.now index.now.entries tx.now) }
 {
     let view = index.at(base, &tx.cut);
+    if let Action::Op(_) = tx.action {
+        if is_known_calm(spec, universe, base, index, &view, &tx.cut, tx.dot.origin) {
+            return reason_within(spec, universe, base, index.history(), &view, tx);
+        }
+    }
     reason_at(spec, universe, base, index.history(), &view, tx)
 }

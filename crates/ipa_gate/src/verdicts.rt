@@ -1,7 +1,7 @@
 //! Whether a transaction is legal between the state at its cut, seen by a view, and the state after it, which is not
 //! built.
 ghost use Rattle.std.specs.Prelude.{◌≡◌, ◌↔◌, ℕ, true, IsTrue, MatchOption, List};
-ghost use Rattle.ipa_logic.specs.Facts.{has, IsStateOf};
+ghost use Rattle.ipa_logic.specs.Facts.{has, IsRising, IsStateOf};
 ghost use Rattle.ipa_logic.specs.Truth.{Keeps};
 ghost use Rattle.ipa_logic.specs.Touches.{IsAfter};
 ghost use Rattle.ipa_logic.specs.Groups.{Within};
@@ -13,9 +13,10 @@ ghost use Rattle.ipa_history.specs.Legality.{IsLegalOperation, IsOperationReason
 ghost use Rattle.ipa_gate.specs.Verdicts.{IsAtCut};
 ghost use Rattle.ipa_gate.specs.DueDrops.{IsDueAs, IsOneDrop};
 
-use ipa_bounds::{AgedView, DropOf, first_drop, first_over};
+use ipa_bounds::{AgedView, DropOf, first_drop};
 use ipa_history::{History, Reason, Tx};
 use ipa_logic::{Fact, State, Universe, View, drop_effect, fact_given, first_failing_need};
+use ipa_overfill::first_over_after;
 use ipa_spec::{Action, Spec};
 use ipa_touch::first_broken;
 
@@ -77,7 +78,8 @@ fn reason_against<V: AgedView>(
     view: &V,
     tx: &Tx,
 ) -> Option<Reason>
-    requires { Keeps spec.now universe.now.sizes (has (V.facts view.now)) }
+    requires rising { IsRising (V.facts view.now) }
+    requires keeps { Keeps spec.now universe.now.sizes (has (V.facts view.now)) }
     ensures { (after : List TheFact) → IsAfter spec.now tx.now.action tx.now.args (V.facts view.now) after →
         MatchOption result (IsLegalOperation spec.now universe.now.sizes tx.now (V.facts view.now) after)
         (IsOperationReason spec.now universe.now.sizes tx.now (V.facts view.now) after) }
@@ -95,6 +97,7 @@ fn reason_besides<V: AgedView>(
     view: &V,
     tx: &Tx,
 ) -> Option<Reason>
+    requires rising { IsRising (V.facts view.now) }
     requires keeps { Keeps spec.now universe.now.sizes (has (V.facts view.now)) }
     requires within { Within spec.now.bounds (V.facts view.now) }
     ensures { (after : List TheFact) → IsAfter spec.now tx.now.action tx.now.args (V.facts view.now) after →
@@ -107,7 +110,7 @@ fn reason_besides<V: AgedView>(
     if let Some(broken) = first_broken(spec, universe, view, tx.action, &tx.args) {
         return Some(Reason::Clause(broken));
     }
-    if let Some(number) = first_over(spec, view, tx.action, &tx.args) {
+    if let Some(number) = first_over_after(spec, view, tx.action, &tx.args) {
         return Some(Reason::Over(number));
     }
     None

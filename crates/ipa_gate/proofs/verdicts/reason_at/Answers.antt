@@ -3,8 +3,8 @@ use Rattle.std.proofs.lemmas.Bool.{false≢true}
 use Rattle.ipa_gate.specs.VerdictLaws.{keeps_before, operation_judged, drop_legal, drop_illegal}
 use Rattle.ipa_gate.proofs.verdicts.reason_at.Goals as goal
 
-pub reason_against-requires : goal.reason_against-requires
-reason_against-requires g c =
+pub reason_against-requires-clause-keeps : goal.reason_against-requires-clause-keeps
+reason_against-requires-clause-keeps g c =
     keeps_before c.args.spec.now c.args.universe.now.sizes c.args.base.now c.args.history.now c.args.tx.now
     c.requires.at _ c.requires.state
 

@@ -17,8 +17,8 @@ returns-in-Some-first_broken g c after is = record {
       c.in-Some-first_broken.ensures;
 }
 
-pub returns-in-Some-first_over : goal.returns-in-Some-first_over
-returns-in-Some-first_over g c after is = record {
+pub returns-in-Some-first_over_after : goal.returns-in-Some-first_over_after
+returns-in-Some-first_over_after g c after is = record {
   within_before = c.requires.within;
   needs = c.in_default.ensures;
   keeps =
@@ -26,7 +26,7 @@ returns-in-Some-first_over g c after is = record {
       (has (g.V.View.facts c.args.view.now)) = λ i f. is.facts f i in
       subst (λ (t : Fact → Bool). Keeps c.args.spec.now c.args.universe.now.sizes t) (sym same)
       c.in_default-first_broken.ensures;
-  first = c.in-Some-first_over.ensures.first after is;
+  first = c.in-Some-first_over_after.ensures after is;
 }
 
 pub returns : goal.returns
@@ -38,5 +38,5 @@ returns g c after is = record {
       (has (g.V.View.facts c.args.view.now)) = λ i f. is.facts f i in
       subst (λ (t : Fact → Bool). Keeps c.args.spec.now c.args.universe.now.sizes t) (sym same)
       c.in_default-first_broken.ensures;
-  within_after = c.in_default-first_over.ensures.first after is;
+  within_after = c.in_default-first_over_after.ensures after is;
 }

@@ -1,5 +1,4 @@
-use Rattle.std.proofs.Common.{not, List, filter, take, drop, ◌∙◌, ap}
-use Rattle.ipa_clock.specs.Cut.{is_covered}
+use Rattle.std.proofs.Common.{List, take, drop, ◌∙◌, ap}
 use Rattle.ipa_history.specs.declared.history.Tx.{Tx}
 use Rattle.ipa_gate.specs.Agreements.{beyond_of}
 use Rattle.ipa_gate.proofs.NewsLemmas.{uncovered-later}

@@ -4,7 +4,7 @@ use Rattle.ipa_gate.specs.Offers.{IsAdmitted, IsTakenAs, IsOfferFault}
 use Rattle.ipa_gate.specs.declared.answers.Taken.{Taken}
 use Rattle.ipa_gate.specs.declared.answers.OfferFault.{OfferFault}
 use Rattle.ipa_gate.specs.declared.answers.OfferFault.TheVariants.{Illegal}
-use Rattle.ipa_gate.proofs.log.Log.offer.Goals as goal
+use Rattle.ipa_gate.proofs.log.Log.take.Goals as goal
 
 pub returns-in-Err-clause-drops : goal.returns-in-Err-clause-drops
 returns-in-Err-clause-drops c n broken action e =
