@@ -26,7 +26,10 @@ use Rattle.ipa_gate.specs.Logs.{IsLog}
 use Rattle.ipa_gate.specs.Settings.{SettingParts, IsLegalFor}
 use Rattle.ipa_gate.specs.Shapes.{IsShaped}
 use Rattle.ipa_session.specs.Sessions.{SessionParts, IsSession}
+use Rattle.ipa_session.specs.Calms.{IsCalmOf}
 use Rattle.ipa_session.specs.Holding.{IsHeld}
+use Rattle.ipa_session.specs.declared.calm.Calm.{Calm}
+use Rattle.ipa_session.proofs.CalmLemmas.{calm_more}
 
 -- what a walk along the news has past their end
 abbrev pub no_tx : Tx
@@ -114,16 +117,18 @@ module _ (h news : List Tx) (i : ℕ) (t : Tx) (more : take (i + 1) news ≡ tak
 
 -- what the session keeps where it sees the news
 pub held_with : (p : SessionParts) (is : IsSession p) (news : List Tx) → IsLegalFor p.setting (p.seen ++ news) →
-    ((t : Tx) → IsMember news t → IsShaped p.setting t) → (cut : Cut) → IsClockOf (p.seen ++ news) cut → (facts : Facts) →
+    ((t : Tx) → IsMember news t → IsShaped p.setting t) → (cut : Cut) → IsClockOf (p.seen ++ news) cut →
+    (calm : Calm) → IsCalmOf p.setting.spec p.setting.base p.seen calm → (facts : Facts) →
     IsFactsOf p.setting.spec p.setting.base (p.seen ++ news) facts → (room : List Tx) → room ≡ [] → (width : ℕ) →
-    IsHeld (record { setting = p.setting; origin = p.origin; seen = p.seen ++ news; spare = 0 }) cut facts room width
-held_with p is news legal shaped cut clock facts are room none width = record {
+    IsHeld (record { setting = p.setting; origin = p.origin; seen = p.seen ++ news; spare = 0 }) cut calm facts room width
+held_with p is news legal shaped cut clock calm of facts are room none width = record {
   session = record {
     origin = is.origin;
     legal = legal;
     shaped = λ t m. elim (member-append_cases p.seen news t m) [ inl old ↦ is.shaped t old | inr new ↦ shaped t new ];
   };
   clock = clock;
+  calm_is = calm_more p.setting.spec p.setting.base p.seen news is.legal.history legal.history calm of;
   facts_are = are;
   empty = none;
   few = omega arith;
@@ -131,12 +136,14 @@ held_with p is news legal shaped cut clock facts are room none width = record {
 }
 
 -- and what it keeps where it sees no more
-pub held_still : (p : SessionParts) (is : IsSession p) (cut : Cut) → IsClockOf p.seen cut → (facts : Facts) →
+pub held_still : (p : SessionParts) (is : IsSession p) (cut : Cut) → IsClockOf p.seen cut → (calm : Calm) →
+    IsCalmOf p.setting.spec p.setting.base p.seen calm → (facts : Facts) →
     IsFactsOf p.setting.spec p.setting.base p.seen facts → (room : List Tx) → room ≡ [] → (width : ℕ) →
-    IsHeld (record { setting = p.setting; origin = p.origin; seen = p.seen; spare = 0 }) cut facts room width
-held_still p is cut clock facts are room none width = record {
+    IsHeld (record { setting = p.setting; origin = p.origin; seen = p.seen; spare = 0 }) cut calm facts room width
+held_still p is cut clock calm of facts are room none width = record {
   session = record { origin = is.origin; legal = is.legal; shaped = is.shaped };
   clock = clock;
+  calm_is = of;
   facts_are = are;
   empty = none;
   few = omega arith;

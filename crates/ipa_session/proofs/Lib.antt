@@ -1,5 +1,6 @@
 mod AbsorbLemmas
 mod CutLemmas
+mod CalmLemmas
 mod DueLemmas
 mod HoldingLemmas
 mod DecisionLemmas

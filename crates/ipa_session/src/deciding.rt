@@ -20,11 +20,15 @@ use std::alloc::AllocError;
 
 impl Session {
     /// The drop that is due at its cut, as its next transaction, or `None` where the state is within the bounds, and
-    /// keeps all clauses besides. It takes no memory.
+    /// keeps all clauses besides. It takes no memory, and goes through all groups only where the transactions that were
+    /// seen last do not tell by themselves that none is over its bound.
     pub fn next_drop(&self) -> Option<Tx>
         ensures { (cut : TheCut) → IsClockOf self.now.seen cut →
             MatchOption result (IsCalmAt self.now cut) (IsDueNext self.now cut) }
     {
+        if self.is_soon_calm() {
+            return None;
+        }
         let spec = self.setting.accepted().spec();
         spec_is_fit(spec);
         match first_drop(spec, &self.facts) {

@@ -6,6 +6,7 @@
 //! are transactions that it keeps ([`Session::keep`]) and that a log takes.
 #![tactic(auto)]
 
+mod calm;
 mod deciding;
 mod decision;
 mod pulling;

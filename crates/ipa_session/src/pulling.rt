@@ -64,6 +64,7 @@ impl Session {
         ensures setting { self.new.setting ≡ self.old.setting }
         ensures origin { self.new.origin ≡ self.old.origin }
     {
+        let calm = self.risen_calm();
         self.spare = 0;
         let spec = self.setting.accepted().spec();
         prepare_all(&mut self.facts, spec, news.as_slice())?;
@@ -71,6 +72,7 @@ impl Session {
         self.seen.extend(news.as_slice())?;
         take_all(&mut self.facts, spec, news.as_slice());
         self.cut = cut;
+        self.calm = calm;
         Ok(())
     }
 }

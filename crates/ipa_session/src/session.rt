@@ -7,6 +7,7 @@ ghost use Rattle.ipa_sets.specs.FactSets.{IsFactsOf, HasRoom, IsReadyFor};
 ghost use Rattle.ipa_history.specs.Clocks.{IsClockOf};
 ghost use Rattle.ipa_session.specs.Sessions.{IsSession, IsLawfulNext};
 
+use crate::calm::Calm;
 use ipa_clock::Cut;
 use ipa_gate::Setting;
 use ipa_history::{History, Tx};
@@ -24,6 +25,8 @@ pub struct Session {
     pub(crate) seen: History,
     // The cut with all that was seen.
     pub(crate) cut: Cut,
+    // A cut of it at which the state is within the bounds.
+    pub(crate) calm: Calm,
     // The facts that are true there.
     pub(crate) facts: Facts,
     // Always empty: room into which the seen history can move, where it has none for one more.
@@ -42,8 +45,8 @@ impl Model for Session {
     ghost view = { λ a. record { setting = a.setting; origin = a.origin; seen = a.seen; spare = a.spare } };
 
     ghost invariant = { λ a.
-        IsHeld (record { setting = a.setting; origin = a.origin; seen = a.seen; spare = a.spare }) a.cut a.facts
-        a.room.items (vec_capacity a.room) };
+        IsHeld (record { setting = a.setting; origin = a.origin; seen = a.seen; spare = a.spare }) a.cut a.calm
+        a.facts a.room.items (vec_capacity a.room) };
 }
 
 impl Session {
@@ -61,6 +64,7 @@ impl Session {
             origin,
             seen: History::new(alloc),
             cut: Cut::empty(),
+            calm: Calm::first(),
             facts,
             room: Vec::new(alloc),
             spare: 0,
@@ -132,6 +136,11 @@ impl Session {
         take_in(&mut self.facts, self.setting.accepted().spec(), &tx);
         self.seen.push_within(tx, &mut self.room);
         self.cut = self.cut.raised(tx.dot);
+        let whole = Calm {
+            cut: self.cut,
+            count: self.seen.len(),
+        };
+        self.calm = self.calm.next(tx.action, whole);
     }
 }
 

@@ -1,6 +1,4 @@
-use Rattle.std.proofs.Common.{List, ◌++◌, sym, ◌∙◌, ap, subst}
-use Rattle.ipa_history.specs.declared.history.Tx.{Tx}
-use Rattle.ipa_gate.specs.Agreements.{HasAll}
+use Rattle.std.proofs.Common.{subst}
 use Rattle.ipa_gate.specs.Logs.{IsLog}
 use Rattle.ipa_gate.specs.Settings.{SettingParts}
 use Rattle.ipa_session.proofs.AbsorbLemmas.{shaped_news}

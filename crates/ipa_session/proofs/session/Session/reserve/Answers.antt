@@ -5,6 +5,7 @@ pub invariant_of-self-in_err-reserve-2 : goal.invariant_of-self-in_err-reserve-2
 invariant_of-self-in_err-reserve-2 c = record {
   session = c.self.invariant.session;
   clock = c.self.invariant.clock;
+  calm_is = c.self.invariant.calm_is;
   facts_are = c.reserve-then-self-eq0.ensures.same c.self.inside.setting.spec c.self.inside.setting.base c.self.inside.seen
       c.self.invariant.facts_are;
   empty = c.reserve.ensures.items ∙ c.self.invariant.empty;
@@ -20,6 +21,7 @@ invariant_of-self-then-self-eq0 c = record {
     shaped = c.self.invariant.session.shaped;
   };
   clock = c.self.invariant.clock;
+  calm_is = c.self.invariant.calm_is;
   facts_are = c.reserve-then-self-eq0.ensures.same c.self.inside.setting.spec c.self.inside.setting.base c.self.inside.seen
       c.self.invariant.facts_are;
   empty = c.reserve.ensures.items ∙ c.self.invariant.empty;
