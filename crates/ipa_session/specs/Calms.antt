@@ -4,8 +4,8 @@
 --                                 are in the cut
 --   IsSpared s state cut t        the transaction spares the bounds of the state, or is in the cut
 --   first_calm                    the calm cut of a session that has seen nothing
---   next_calm action old whole    after a session's next transaction: the whole cut after an operation, after a drop the
---                                 old one
+--   next_calm action old whole    that after a session's next transaction: the whole cut after an operation, and the
+--                                 old one after a drop
 use Rattle.std.specs.Prelude.{List}
 use Rattle.ipa_clock.specs.declared.cut.Cut.{Cut}
 use Rattle.ipa_clock.specs.Cut.{Covers, empty}

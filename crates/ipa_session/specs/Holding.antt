@@ -1,8 +1,8 @@
 -- What a session keeps beside its value.
 --
---   IsHeld p cut calm facts room width     the cut and the facts are those of the seen history, the calm cut is one of
---                                     it, and where there is room for one more transaction, it is there in the facts and
---                                     in the list of this width
+--   HasRoomFor seen facts width         the facts, and a list of this width, have room for one more transaction
+--   IsHeld p cut calm facts room width  the cut and the facts are those of the seen history, the calm cut is one of it,
+--                                       and where there is said to be room for one more transaction, it is there
 use Rattle.std.specs.Prelude.{◌≡◌, ℕ, ◌<◌, ◌≤◌, List, [], length}
 use Rattle.ipa_clock.specs.declared.cut.Cut.{Cut}
 use Rattle.ipa_history.specs.declared.history.Tx.{Tx}
@@ -19,7 +19,8 @@ pub record HasRoomFor (seen : List Tx) (facts : Facts) (width : ℕ) : Type 0 wh
   pub wide : length seen < width
 
 -- the cut and the facts are those of the seen history, the calm cut is one of it, and what is said to be spare is there
-pub record IsHeld (p : SessionParts) (cut : Cut) (calm : Calm) (facts : Facts) (room : List Tx) (width : ℕ) : Type 0 where
+pub record IsHeld (p : SessionParts) (cut : Cut) (calm : Calm) (facts : Facts) (room : List Tx)
+    (width : ℕ) : Type 0 where
   pub session : IsSession p
   pub clock : IsClockOf p.seen cut
   pub calm_is : IsCalmOf p.setting.spec p.setting.base p.seen calm
