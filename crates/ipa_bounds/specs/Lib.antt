@@ -1,3 +1,4 @@
 pub mod Choices
 pub mod Picks
 pub mod Runs
+pub mod Members

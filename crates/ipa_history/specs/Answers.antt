@@ -4,7 +4,7 @@
 --   is_shown predicate places f           the fact is of the predicate, and has the elements wanted in its places
 --   shown_at s base h cut predicate places f   the fact is true at the cut and shown
 --   IsAnswer s universe base h cut origin request answer   the answer of the request at the cut
-use Rattle.std.specs.Prelude.{◌≡◌, ℕ, ◌+◌, Bool, true, ◌&&◌, ◌==◌, List, length, slice_index, slice_index_or, Option, Some, None}
+use Rattle.std.specs.Prelude.{◌≡◌, ℕ, ◌+◌, Bool, ◌&&◌, List, length, Option}
 use Rattle.ipa_clock.specs.declared.cut.Cut.{Cut}
 use Rattle.ipa_clock.specs.Cut.{count_of}
 use Rattle.ipa_spec.specs.Actions.{sorts_of}
@@ -14,6 +14,7 @@ use Rattle.ipa_logic.specs.Facts.{Universe, IsStateOf}
 use Rattle.ipa_logic.specs.declared.facts.Fact.{Fact}
 use Rattle.ipa_logic.specs.declared.facts.Request.{Request}
 use Rattle.ipa_logic.specs.declared.facts.Request.TheVariants.{Do, Show}
+use Rattle.ipa_matching.specs.Matches.{is_match}
 use Rattle.ipa_history.specs.Values.{value_at}
 use Rattle.ipa_history.specs.Legality.{IsLegal, IsIllegal}
 use Rattle.ipa_history.specs.declared.history.Tx.{Tx}
@@ -30,17 +31,9 @@ next_operation s cut origin op args = record {
   count = length (sorts_of s (Op op));
 }
 
--- a place fits any element, or the one that is wanted
-abbrev pub place_fits : Option ℕ → ℕ → Bool
-place_fits (Some one) element = one == element
-place_fits None element = true
-
 -- the fact is of the predicate, and has the elements wanted in its places
 abbrev pub is_shown : ℕ → List (Option ℕ) → Fact → Bool
-is_shown predicate places f =
-    (((f.predicate == predicate) && place_fits (slice_index_or places 0 None) (slice_index f.args 0))
-    && place_fits (slice_index_or places 1 None) (slice_index f.args 1))
-    && place_fits (slice_index_or places 2 None) (slice_index f.args 2)
+is_shown predicate places f = is_match predicate places f
 
 -- the fact is true at the cut, and one that was asked for
 abbrev pub shown_at : Specification → List Fact → List Tx → Cut → ℕ → List (Option ℕ) → Fact → Bool

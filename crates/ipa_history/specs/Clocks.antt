@@ -8,8 +8,7 @@
 --   clock-closed           it is closed
 --   clock-members          its members are the whole history
 --   one_clock              there is one
-use Rattle.std.proofs.Common.{◌≡◌, ℕ, ◌+◌, ◌<◌, ◌≤◌, Bool, true, cond, ◌==◌, List, [], ◌∷◌, ◌++◌, length, take, filter, replicate, slice_get, Some, refl, sym, ◌∙◌, ap, subst, arith, inl, inr, get_or}
-use Rattle.std.specs.List.{count_by}
+use Rattle.std.proofs.Common.{◌≡◌, ℕ, ◌+◌, ◌<◌, ◌≤◌, Bool, cond, ◌==◌, List, [], ◌∷◌, ◌++◌, length, take, replicate, refl, sym, ◌∙◌, ap, subst, arith, inl, inr}
 use Rattle.std.proofs.lemmas.Bool.{cases_lt, cases_eq, eq-eqb, ne_eqb}
 use Rattle.std.proofs.lemmas.List.{take_all, ext_get_or, get_or-replicate, length-set}
 use Rattle.std.proofs.Math.ListN.{get_or-eq_default}
@@ -18,9 +17,9 @@ use Rattle.ipa_clock.specs.declared.dot.Dot.{Dot}
 use Rattle.ipa_clock.specs.declared.cut.Cut.{Cut}
 use Rattle.ipa_clock.specs.Cut.{count_of, Covers, is_covered, IsBelow, empty, raised}
 use Rattle.ipa_clock.specs.Lemmas.{count_of-raised_same, count_of-raised_other}
-use Rattle.ipa_history.specs.Histories.{IsMember, IsHistory, IsClosed, StandsIn, number_of, members_of}
+use Rattle.ipa_history.specs.Histories.{IsMember, IsHistory, IsClosed, number_of, members_of}
 use Rattle.ipa_history.specs.HistoryLaws.{covers_covered, count_grows, count_push, member-take}
-use Rattle.ipa_history.specs.MemberLaws.{member_first, member_later, filter_all}
+use Rattle.ipa_history.specs.MemberLaws.{filter_all}
 use Rattle.ipa_history.specs.declared.history.Tx.{Tx}
 
 -- the cut counts the transactions of each origin that the history has

@@ -1,16 +1,16 @@
 //! What a request is answered at a cut.
-ghost use Rattle.std.specs.Prelude.{◌≡◌, ◌<◌, ◌&&◌, ◌||◌, IfOk, OnOk, slice_index_or, None};
-ghost use Rattle.std.specs.Ordering.{is_eq};
-ghost use Rattle.ipa_logic.specs.Facts.{has, fact_cmp, IsRising, IsStateOf};
+ghost use Rattle.std.specs.Prelude.{◌≡◌, ◌<◌, ◌&&◌, IfOk};
+ghost use Rattle.ipa_logic.specs.Facts.{has, IsStateOf};
 ghost use Rattle.ipa_history.specs.Histories.{IsClosed};
-ghost use Rattle.ipa_history.specs.Answers.{place_fits, is_shown, next_operation, IsAnswer};
+ghost use Rattle.ipa_history.specs.Answers.{is_shown, next_operation, IsAnswer};
 
 use crate::history::{History, Tx};
 use crate::legality::reason_against;
 use crate::reasons::Reason;
 use crate::states::state_at_plain;
 use ipa_clock::{Cut, Dot};
-use ipa_logic::{Fact, Request, State, Universe, View, true_facts};
+use ipa_logic::{Request, State, Universe, View};
+use ipa_matching::next_match;
 use ipa_spec::laws::spec_is_fit;
 use ipa_spec::{Action, Spec};
 use std::alloc::{AllocError, Global};
@@ -108,7 +108,7 @@ fn next_operation(
     }
 }
 
-/// The true facts of the predicate that have the elements wanted in its places.
+/// The true facts of the predicate that have the elements wanted in its places. It looks at few others.
 pub fn facts_shown<V: View>(
     alloc: Global,
     view: &V,
@@ -118,45 +118,10 @@ pub fn facts_shown<V: View>(
     ensures { IfOk result (IsStateOf (λ f. has (V.facts view.now) f && is_shown predicate places.now f)) }
 {
     let mut shown = State::new(alloc);
-    for fact in true_facts(view, predicate) {
-        insert_if_shown(&mut shown, predicate, places, &fact)?;
+    let mut last = None;
+    while let Some(fact) = next_match(view, predicate, places, last) {
+        shown.insert(fact)?;
+        last = Some(fact);
     }
     Ok(shown)
-}
-
-// Inserts the fact if it is one of those.
-fn insert_if_shown(
-    shown: &mut State,
-    predicate: u8,
-    places: &[Option<u16>; 3],
-    fact: &Fact,
-) -> Result<(), AllocError>
-    requires rising { IsRising shown.old }
-    ensures facts { OnOk result ((f : Fact) → has shown.new f
-        ≡ ((is_eq (fact_cmp fact.now f) && is_shown predicate places.now f) || has shown.old f)) }
-    ensures rising { IsRising shown.new }
-{
-    if is_shown(predicate, places, fact) {
-        shown.insert(*fact)?;
-    }
-    Ok(())
-}
-
-// Whether the fact is of the predicate and has the elements wanted in its places.
-fn is_shown(predicate: u8, places: &[Option<u16>; 3], fact: &Fact) -> bool
-    ensures { result ≡ is_shown predicate places.now fact.now }
-{
-    fact.predicate == predicate
-        && place_fits(places[0], fact.args[0])
-        && place_fits(places[1], fact.args[1])
-        && place_fits(places[2], fact.args[2])
-}
-
-fn place_fits(wanted: Option<u16>, element: u16) -> bool
-    ensures { result ≡ place_fits wanted element }
-{
-    match wanted {
-        Some(one) => one == element,
-        None => true,
-    }
 }

@@ -1,0 +1,2 @@
+pub mod LeapLemmas
+pub mod MatchLemmas
