@@ -2,6 +2,7 @@
 ghost use Rattle.std.specs.Prelude.{◌≡◌, ◌<◌, ℕ, [], None};
 ghost use Rattle.ipa_clock.specs.Cut.{count_of};
 ghost use Rattle.ipa_history.specs.Histories.{number_of};
+ghost use Rattle.ipa_sets.specs.Indexes.{IsIndexOf};
 
 use crate::entries::clock_of;
 use crate::setting::Setting;
@@ -63,6 +64,14 @@ impl Log {
         ensures log { IsLog self.now.setting self.now.entries }
     {
         self.index.history()
+    }
+
+    /// The index of the entries, to be asked for the state at any cut.
+    pub fn index(&self) -> &Index
+        ensures entries { result.now.entries ≡ self.now.entries }
+        ensures indexed { IsIndexOf self.now.setting.spec result.now }
+    {
+        &self.index
     }
 
     /// The cut with all entries.
