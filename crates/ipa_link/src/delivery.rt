@@ -1,5 +1,7 @@
 //! One frame that came.
-ghost use Rattle.std.specs.Prelude.{◌≡◌, MatchResult, length};
+ghost use Rattle.std.specs.Prelude.{◌≡◌, IsTrue, IfOk, IfErr, OnErr, MatchResult, length};
+ghost use Rattle.ipa_gate.specs.Offers.{IsNextIn, IsTakenAs, IsOfferFault, entries_after};
+ghost use Rattle.ipa_history.specs.Legality.{IsLegal};
 ghost use Rattle.ipa_history.specs.declared.history.Tx.{Tx as TheTx};
 ghost use Rattle.ipa_frame.specs.Frames.{IsRead};
 ghost use Rattle.ipa_frame.specs.declared.frame.Frame.TheVariants.{Carry};
@@ -33,8 +35,32 @@ pub fn deliver(log: &mut Log, bytes: &[u8]) -> Delivered
     // Where nothing was offered, nothing at all is changed.
     ensures unchanged { IfUnoffered result (log.new ≡ log.old) }
 {
+    deliver_as(log, bytes, false)
+}
+
+/// The same where what the frame carries, if it comes next in the log, is known to be legal there: it is not judged.
+pub fn deliver_admitted(log: &mut Log, bytes: &[u8]) -> Delivered
+    requires legal { (tx : TheTx) → IsRead bytes.now (Carry tx) (length bytes.now) →
+        IsNextIn log.old.setting log.old.entries tx →
+        IsLegal log.old.setting.spec log.old.setting.universe log.old.setting.base log.old.entries tx }
+    ensures delivery { IsDelivery log.old.setting log.old.entries bytes.now result log.new.entries }
+    ensures setting { log.new.setting ≡ log.old.setting }
+    ensures unchanged { IfUnoffered result (log.new ≡ log.old) }
+{
+    deliver_as(log, bytes, true)
+}
+
+// The same, with or without that knowledge.
+fn deliver_as(log: &mut Log, bytes: &[u8], is_legal: bool) -> Delivered
+    requires legal { IsTrue is_legal → (tx : TheTx) → IsRead bytes.now (Carry tx) (length bytes.now) →
+        IsNextIn log.old.setting log.old.entries tx →
+        IsLegal log.old.setting.spec log.old.setting.universe log.old.setting.base log.old.entries tx }
+    ensures delivery { IsDelivery log.old.setting log.old.entries bytes.now result log.new.entries }
+    ensures setting { log.new.setting ≡ log.old.setting }
+    ensures unchanged { IfUnoffered result (log.new ≡ log.old) }
+{
     match whole_frame(bytes) {
-        Ok(frame) => receive(log, frame),
+        Ok(frame) => receive(log, frame, is_legal),
         Err(fault) => Delivered::Garbled(fault),
     }
 }
@@ -50,28 +76,50 @@ fn whole_frame(bytes: &[u8]) -> Result<Frame, FrameFault>
     Ok(frame)
 }
 
-// What the log makes of a frame.
-pub(crate) fn receive(log: &mut Log, frame: Frame) -> Delivered
+// What the log makes of a frame. What it carries may be known to be legal where it comes next.
+pub(crate) fn receive(log: &mut Log, frame: Frame, is_legal: bool) -> Delivered
+    requires legal { IsTrue is_legal → (tx : TheTx) → frame ≡ Carry tx →
+        IsNextIn log.old.setting log.old.entries tx →
+        IsLegal log.old.setting.spec log.old.setting.universe log.old.setting.base log.old.entries tx }
     ensures answered { IsAnswered log.old.setting log.old.entries frame result }
     ensures entries { log.new.entries ≡ entries_left log.old.entries frame result }
     ensures setting { log.new.setting ≡ log.old.setting }
     ensures unchanged { IfUnoffered result (log.new ≡ log.old) }
 {
     match frame {
-        Frame::Carry(tx) => offered(log, tx),
+        Frame::Carry(tx) => offered(log, tx, is_legal),
         Frame::Have(cut) => Delivered::Heard(cut),
     }
 }
 
 // What the log answers the offer of a transaction.
-fn offered(log: &mut Log, tx: Tx) -> Delivered
+fn offered(log: &mut Log, tx: Tx, is_legal: bool) -> Delivered
+    requires legal { IsTrue is_legal → IsNextIn log.old.setting log.old.entries tx →
+        IsLegal log.old.setting.spec log.old.setting.universe log.old.setting.base log.old.entries tx }
     ensures answered { IsAnswered log.old.setting log.old.entries (Carry tx) result }
     ensures entries { log.new.entries ≡ entries_left log.old.entries (Carry tx) result }
     ensures setting { log.new.setting ≡ log.old.setting }
     ensures unchanged { IfUnoffered result (log.new ≡ log.old) }
 {
-    match log.offer(tx) {
+    match taken(log, tx, is_legal) {
         Ok(taken) => Delivered::Taken(taken),
         Err(fault) => Delivered::Refused(fault),
+    }
+}
+
+// The log takes the transaction, which may be known to be legal where it comes next.
+fn taken(log: &mut Log, tx: Tx, is_legal: bool) -> Result<Taken, OfferFault>
+    requires legal { IsTrue is_legal → IsNextIn log.old.setting log.old.entries tx →
+        IsLegal log.old.setting.spec log.old.setting.universe log.old.setting.base log.old.entries tx }
+    ensures taken { IfOk result (IsTakenAs log.old.setting log.old.entries tx) }
+    ensures entries { IfOk result (λ taken. log.new.entries ≡ entries_after log.old.entries tx taken) }
+    ensures refused { IfErr result (IsOfferFault log.old.setting log.old.entries tx) }
+    ensures kept { OnErr result (log.new.entries ≡ log.old.entries) }
+    ensures setting { log.new.setting ≡ log.old.setting }
+{
+    if is_legal {
+        log.admit(tx)
+    } else {
+        log.offer(tx)
     }
 }

@@ -85,7 +85,7 @@ fn pour_one(log: &mut Log, bytes: &[u8], poured: Poured) -> Result<Poured, Stop>
     ensures setting { log.new.setting ≡ log.old.setting }
 {
     let (frame, size) = read_frame(&bytes[poured.read..])?;
-    let answer = receive(log, frame);
+    let answer = receive(log, frame, false);
     if is_wanting(answer) {
         return Err(Stop::NoMemory);
     }
