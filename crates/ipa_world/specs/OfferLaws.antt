@@ -4,6 +4,7 @@
 --   open_to             the log of a session's replica is open to the session
 --   givable_entry       an entry of one log can be given to another
 --   givable_welcome     so can what is welcome, and it is news
+--   legal_given         what can be given is legal where it comes next
 --   taken_given         where it is taken, it is given
 --   fault_given         where it is refused, it is for a gap, or for want of room or memory: the other faults never come
 --   gap_given           a gap is no news
@@ -14,6 +15,7 @@ use Rattle.std.specs.Prelude.{OnOk}
 use Rattle.ipa_clock.specs.declared.cut.Cut.{Cut}
 use Rattle.ipa_history.specs.Histories.{IsMember}
 use Rattle.ipa_history.specs.Clocks.{IsClockOf, one_clock}
+use Rattle.ipa_history.specs.Legality.{IsLegal}
 use Rattle.ipa_history.specs.declared.history.Tx.{Tx}
 use Rattle.ipa_gate.specs.Agreements.{HasAll}
 use Rattle.ipa_gate.specs.Offers.{IsNextIn, IsOfferFault, IsTakenAs, entries_after}
@@ -85,6 +87,10 @@ module _ (s : SettingParts) (h : List Tx) (t : Tx) where
   news_next : IsNextIn s h t → IsNews h t
   news_next is = record { lacks = λ m. is.fresh.unnamed.none t m refl; holds = is.closed.within }
 
+  -- what can be given is legal where it comes next
+  pub legal_given : IsGivable s h t → IsNextIn s h t → IsLegal s.spec s.universe s.base h t
+  legal_given givable next = (givable.welcome (news_next next)).legal
+
   pub news_welcome : IsWelcome s h t → IsNews h t
   news_welcome is = news_next is.next
 
@@ -114,7 +120,7 @@ module _ (s : SettingParts) (h : List Tx) (t : Tx) where
       first.above (below first.covered)
   fault_given givable Full is = tt
   fault_given givable (Illegal reason) is =
-      one_verdict s.spec s.universe s.base h t reason (givable.welcome (news_next is.next)).legal is.illegal
+      one_verdict s.spec s.universe s.base h t reason (legal_given givable is.next) is.illegal
   fault_given givable NoMemory is = tt
 
   -- a gap is no news

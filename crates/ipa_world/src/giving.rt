@@ -6,7 +6,8 @@ use crate::steps::WorldFault;
 use ipa_gate::{Log, OfferFault};
 use ipa_history::Tx;
 
-// Gives the log a transaction of its world: where it is news, the log takes it; else nothing changes.
+// Gives the log a transaction of its world: where it is news, the log takes it; else nothing changes. It is legal where
+// it is news, so it is not judged again.
 pub(crate) fn give(log: &mut Log, tx: Tx) -> Result<(), WorldFault>
     requires { IsGivable log.old.setting log.old.entries tx }
     ensures given { OnOk result (IsGivenTo log.old.entries tx log.new.entries) }
@@ -14,7 +15,7 @@ pub(crate) fn give(log: &mut Log, tx: Tx) -> Result<(), WorldFault>
     ensures unchanged { OnErr result (log.new.entries ≡ log.old.entries) }
     ensures setting { log.new.setting ≡ log.old.setting }
 {
-    match log.offer(tx) {
+    match log.admit(tx) {
         Ok(_) => Ok(()),
         Err(fault) => left(fault),
     }

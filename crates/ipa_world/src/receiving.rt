@@ -7,9 +7,10 @@ ghost use Rattle.ipa_world.specs.Arrivals.{IsFrameOf, IsBorne, IsArrival, Brings
 use crate::giving::left;
 use crate::steps::WorldFault;
 use crate::world::World;
+use ipa_frame::laws::one_frame;
 use ipa_gate::Log;
 use ipa_link::laws::written_is_received;
-use ipa_link::{Delivered, deliver};
+use ipa_link::{Delivered, deliver_admitted};
 
 impl World {
     ghost use Rattle.ipa_world.specs.Steps.{IsGiven};
@@ -33,7 +34,7 @@ impl World {
     }
 }
 
-// Gives the log the transaction of its world whose frame these bytes are.
+// Gives the log the transaction of its world whose frame these bytes are. It is legal where it is news.
 fn bring(log: &mut Log, bytes: &[u8]) -> Result<(), WorldFault>
     requires { BringsGivable log.old.setting log.old.entries bytes.now }
     ensures given { (tx : TheTx) → IsFrameOf tx bytes.now → IsGivable log.old.setting log.old.entries tx →
@@ -44,7 +45,8 @@ fn bring(log: &mut Log, bytes: &[u8]) -> Result<(), WorldFault>
     ensures setting { log.new.setting ≡ log.old.setting }
 {
     written_is_received();
-    match deliver(log, bytes) {
+    one_frame();
+    match deliver_admitted(log, bytes) {
         Delivered::Taken(_) => Ok(()),
         Delivered::Refused(fault) => left(fault),
         Delivered::Heard(_) => unreachable!(),
