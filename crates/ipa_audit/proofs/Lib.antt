@@ -9,3 +9,4 @@ pub mod LawfulLemmas
 pub mod CommitLemmas
 pub mod EntryLemmas
 pub mod VerdictLemmas
+pub mod AnsweredLemmas

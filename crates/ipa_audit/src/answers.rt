@@ -1,20 +1,21 @@
 //! What a request is answered at a closed cut of the entries, and whether an outcome tells that.
-ghost use Rattle.std.specs.Prelude.{◌≡◌, ◌↔◌, ◌<◌, ◌+◌, IsTrue, IfOk, MatchBool};
+ghost use Rattle.std.specs.Prelude.{◌≡◌, ◌↔◌, ◌<◌, ◌+◌, IsTrue, IfOk, MatchBool, length};
 ghost use Rattle.ipa_clock.specs.Cut.{count_of};
 ghost use Rattle.ipa_logic.specs.Acceptance.{IsAccepted};
 ghost use Rattle.ipa_logic.specs.Requests.{IsDo, IsRequest};
-ghost use Rattle.ipa_history.specs.Histories.{IsClosed};
+ghost use Rattle.ipa_history.specs.Histories.{IsMember, IsClosed};
+ghost use Rattle.ipa_history.specs.declared.history.Tx.{Tx as TheTx};
+ghost use Rattle.ipa_spec.specs.Actions.{sorts_of};
 ghost use Rattle.ipa_history.specs.Legality.{IsLegalHistory};
 ghost use Rattle.ipa_history.specs.Answers.{next_operation, IsAnswer};
 ghost use Rattle.ipa_history.specs.LawfulEnds.{IsEntryOf, IsEntered};
 ghost use Rattle.ipa_sets.specs.Indexes.{IsIndexOf};
 ghost use Rattle.ipa_audit.specs.GoodLines.{IsAnswered, IsFalse};
-ghost use Rattle.ipa_audit.specs.Operations.{IsOfOperation};
+ghost use Rattle.ipa_audit.specs.Operations.{IsOfOperation, IsCalmWhole};
 
 use crate::finals::is_same_state;
-use ipa_bounds::within;
 use ipa_clock::{Cut, Dot};
-use ipa_gate::{argument_count, reason_at};
+use ipa_gate::{argument_count, is_calm_at, reason_within};
 use ipa_history::{Answer, Tx, facts_shown};
 use ipa_journal::OutLine;
 use ipa_logic::{Request, State, Universe};
@@ -24,8 +25,40 @@ use ipa_spec::{Action, Spec};
 use std::alloc::{AllocError, Global};
 
 // Whether the outcome reads a state within the bounds, and tells what the request is answered there, and whether a
-// commit has its entry. The cut is a closed one of the entries.
+// commit has its entry. The cut is a closed one of the entries. An entry is legal at its cut, so a commit that has one
+// is not judged again.
 pub(crate) fn is_answered(
+    alloc: Global,
+    spec: &Spec,
+    universe: &Universe,
+    base: &State,
+    index: &Index,
+    request: &Request,
+    out: &OutLine,
+) -> Result<bool, AllocError>
+    requires indexed { IsIndexOf spec.now index.now }
+    requires accepted { IsAccepted spec.now }
+    requires legal { IsLegalHistory spec.now universe.now.sizes base.now index.now.entries }
+    requires counted { (t : TheTx) → IsMember index.now.entries t →
+        t.count ≡ length (sorts_of spec.now t.action) }
+    requires closed { IsClosed index.now.entries out.now.cut }
+    requires origin { out.now.session < 16 }
+    requires request { IsRequest spec.now universe.now.sizes request.now }
+    ensures { IfOk result (λ good. MatchBool good
+        (IsAnswered spec.now universe.now.sizes base.now index.now.entries request.now out.now)
+        (IsFalse spec.now universe.now.sizes base.now index.now.entries request.now out.now)) }
+{
+    match (request, &out.answer) {
+        (Request::Do { op, args }, Answer::Commit(number)) => {
+            let is_entry = is_entry(spec, index, out.session, *number, &out.cut, *op, args);
+            Ok(is_entry)
+        }
+        _ => is_told(alloc, spec, universe, base, index, request, out),
+    }
+}
+
+// The same, by answering the request.
+fn is_told(
     alloc: Global,
     spec: &Spec,
     universe: &Universe,
@@ -44,8 +77,8 @@ pub(crate) fn is_answered(
         (IsAnswered spec.now universe.now.sizes base.now index.now.entries request.now out.now)
         (IsFalse spec.now universe.now.sizes base.now index.now.entries request.now out.now)) }
 {
-    let view = index.at(base, &out.cut);
-    if !within(spec, &view) {
+    let _view = index.at(base, &out.cut);
+    if !is_calm_at(spec, universe, base, index, &out.cut, out.session) {
         return Ok(false);
     }
     let answer = answer_at(
@@ -64,7 +97,7 @@ pub(crate) fn is_answered(
     Ok(is_entered(spec, index, out, request))
 }
 
-// What the request of the origin is answered at the cut.
+// What the request of the origin is answered at the cut, whose state is within the bounds.
 fn answer_at(
     alloc: Global,
     spec: &Spec,
@@ -81,6 +114,7 @@ fn answer_at(
     requires closed { IsClosed index.now.entries cut.now }
     requires origin { origin < 16 }
     requires request { IsRequest spec.now universe.now.sizes request.now }
+    requires within { IsCalmWhole spec.now base.now index.now.entries cut.now }
     ensures { IfOk result
         (IsAnswer spec.now universe.now.sizes base.now index.now.entries cut.now origin request.now) }
 {
@@ -113,13 +147,14 @@ fn answer_do(
     requires closed { IsClosed index.now.entries cut.now }
     requires origin { origin < 16 }
     requires request { IsDo spec.now universe.now.sizes op args.now }
+    requires within { IsCalmWhole spec.now base.now index.now.entries cut.now }
     ensures { IsAnswer spec.now universe.now.sizes base.now index.now.entries cut.now origin
         (Request.Do op args.now) result }
 {
     spec_is_fit(spec);
     let tx = next_operation(spec, index, cut, origin, op, args);
     let view = index.at(base, &tx.cut);
-    match reason_at(spec, universe, base, index.history(), &view, &tx) {
+    match reason_within(spec, universe, base, index.history(), &view, &tx) {
         None => Answer::Commit(tx.dot.number),
         Some(reason) => Answer::Refused(reason),
     }

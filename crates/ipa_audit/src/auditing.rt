@@ -7,7 +7,7 @@ ghost use Rattle.ipa_audit.specs.GoodLines.{AreGood};
 ghost use Rattle.ipa_audit.specs.Steps.{AreAsked};
 ghost use Rattle.ipa_audit.specs.Verdicts.{IsVerdict};
 
-use crate::entries::{index_of, take_all};
+use crate::entries::take_all;
 use crate::finals::is_final;
 use crate::missing::is_complete;
 use crate::outcomes::first_bad;
@@ -55,16 +55,16 @@ fn audit_rest(
 {
     let _entries = log.entries();
     let _accepted = log.setting().accepted();
-    let index = index_of(alloc, log)?;
+    let index = log.index();
     let outs = journal.outcomes.as_slice();
     let sessions = setup.sessions.as_slice();
-    if let Some(line) = first_bad(alloc, log.setting(), sessions, &index, outs)? {
+    if let Some(line) = first_bad(alloc, log.setting(), sessions, index, outs)? {
         return Ok(Verdict::Bad {
             line,
             fault: AuditFault::Outcome,
         });
     }
-    audit_end(alloc, log, &index, setup, journal)
+    audit_end(alloc, log, index, setup, journal)
 }
 
 // The same where all outcomes are good too.

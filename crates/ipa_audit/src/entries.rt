@@ -1,7 +1,5 @@
 //! The transactions of a journal: each is offered to a log of those before it.
 ghost use Rattle.std.specs.Prelude.{◌≡◌, [], ◌∷◌, ◌++◌, IfOk, OnOk, MatchOption};
-ghost use Rattle.ipa_history.specs.Histories.{IsHistory};
-ghost use Rattle.ipa_sets.specs.Indexes.{IsIndexOf};
 ghost use Rattle.ipa_gate.specs.Logs.{IsLog};
 ghost use Rattle.ipa_gate.specs.Offers.{IsAdmitted};
 ghost use Rattle.ipa_audit.specs.Journals.{txs_of};
@@ -12,9 +10,7 @@ use crate::verdict::AuditFault;
 use ipa_gate::{Log, OfferFault, Taken};
 use ipa_history::Tx;
 use ipa_journal::TxLine;
-use ipa_sets::Index;
-use ipa_spec::Spec;
-use std::alloc::{AllocError, Global};
+use std::alloc::AllocError;
 
 /// A bad line, by its number, and why it is bad.
 #[derive(Clone, Copy)]
@@ -54,27 +50,4 @@ fn take(log: &mut Log, tx: Tx) -> Result<Option<AuditFault>, AllocError>
         Err(OfferFault::NoMemory) => Err(AllocError),
         Err(fault) => Ok(Some(AuditFault::Offer(fault))),
     }
-}
-
-// The index of the log's entries.
-pub(crate) fn index_of(alloc: Global, log: &Log) -> Result<Index, AllocError>
-    ensures indexed { IfOk result (λ index. IsIndexOf log.now.setting.spec index) }
-    ensures entries { IfOk result (λ index. index.entries ≡ log.now.entries) }
-{
-    let entries = log.entries().as_slice();
-    let index = index_entries(alloc, log.setting().accepted().spec(), entries)?;
-    Ok(index)
-}
-
-// The index of the entries of a history.
-fn index_entries(alloc: Global, spec: &Spec, entries: &[Tx]) -> Result<Index, AllocError>
-    requires { IsHistory entries.now }
-    ensures indexed { IfOk result (IsIndexOf spec.now) }
-    ensures entries { IfOk result (λ index. index.entries ≡ entries.now) }
-{
-    let mut index = Index::new(alloc);
-    for tx in entries {
-        index.take(spec, tx)?;
-    }
-    Ok(index)
 }
