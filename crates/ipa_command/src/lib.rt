@@ -5,7 +5,8 @@
 //! So its steps are joined by `?`, in the order of the verdict's cases: `read_input`, `document_of`, `accepted_of`, then
 //! what the command has of its own, and `write_answer` at the end. What each step may answer is a fact of
 //! `specs/Steps.antt` over the cases of `specs/Verdicts.antt`, and the clauses of the whole call, `AnswersInput`, follow
-//! from them by `specs/AnswerLaws.antt`, once for all commands.
+//! from them by `specs/AnswerLaws.antt`, once for all commands. That an input has one verdict follows from the laws of
+//! `first_cases_are_one` by `specs/VerdictLaws.antt`.
 //!
 //! ```
 //! let bytes = read_input(alloc, source, LONGEST_DOCUMENT)?;
@@ -18,8 +19,10 @@ mod answers;
 mod edges;
 mod judging;
 mod status;
+mod verdict_laws;
 
 pub use answers::{Answer, Stop, text_answer};
 pub use edges::{read_input, write_answer, write_text};
 pub use judging::{LONGEST_DOCUMENT, accepted_of, document_of, refuse_width};
 pub use status::Status;
+pub use verdict_laws::first_cases_are_one;

@@ -3,23 +3,12 @@ ghost use Rattle.std.specs.Prelude.{◌≡◌, ℕ, List};
 ghost use Rattle.ipa_journal_commands.specs.Audits.{AuditVerdict};
 ghost use Rattle.ipa_journal_commands.specs.Journals.{AreOneJournal};
 ghost use Rattle.ipa_journal_commands.specs.Migrations.{MigrateVerdict};
-ghost use Rattle.ipa_command.specs.VerdictLaws.{AreOne};
 ghost use Rattle.ipa_command.specs.declared.status.Status.{Status};
 
 use ipa_audit::{law_bad_is_unlawful, law_one_reason};
+use ipa_command::first_cases_are_one;
 use ipa_journal::one_journal;
-use ipa_pairs::{one_analysis, one_refusal};
-use ipa_reader::{document_faultless, kept_by_type, one_reading};
-
-/// There is one reading of a text, one analysis of its specification, and one first triple that is too wide.
-fn first_cases_are_one()
-    ensures { AreOne }
-{
-    one_reading();
-    document_faultless();
-    one_analysis();
-    one_refusal();
-}
+use ipa_reader::kept_by_type;
 
 /// There is one reading of a journal.
 fn journals_are_one()

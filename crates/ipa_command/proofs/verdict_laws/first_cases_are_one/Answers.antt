@@ -1,4 +1,4 @@
-use Rattle.ipa_journal_commands.proofs.verdict_laws.first_cases_are_one.Goals as goal
+use Rattle.ipa_command.proofs.verdict_laws.first_cases_are_one.Goals as goal
 
 pub returns : goal.returns
 returns c = record {
