@@ -8,7 +8,7 @@
 --   Edge                                     what the source and the sink tell, before and after
 --   AnswersInput may Verdict Untouched edge status   all clauses of the call, where `Untouched` says that the sink is
 --                                            as it was
-use Rattle.std.specs.Prelude.{◌≡◌, ◌≢◌, ◌≤◌, ◌⊎◌, ℕ, List, Option, Bool, true, false, ◌||◌, IfSome}
+use Rattle.std.specs.Prelude.{◌≡◌, ◌≤◌, ◌⊎◌, ℕ, List, Option, Bool, true, false, ◌||◌, IfSome}
 use Rattle.std.specs.Io.KnownBytes.{Appends, IsAtEnd}
 use Rattle.ipa_base.specs.Faults.{Rose}
 use Rattle.ipa_base.specs.Bytes.{AppendsPart}

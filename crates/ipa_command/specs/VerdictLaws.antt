@@ -5,7 +5,7 @@
 --   IsOne Says             there is one status and text of which `Says` tells
 --   one-after_length, one-after_reading, one-after_width, one-after_acceptance
 --                          each of the first cases keeps this
-use Rattle.std.proofs.Common.{◌≡◌, ℕ, List, refl, sym, ap, ◌∙◌, subst, arith}
+use Rattle.std.proofs.Common.{◌≡◌, ℕ, List, sym, ap, ◌∙◌, subst, arith}
 use Rattle.ipa_spec.specs.Fits.{IsFit}
 use Rattle.ipa_spec.specs.Limits.{IsFaultless}
 use Rattle.ipa_spec.specs.FaultlessFits.{IsFit-from_faultless}

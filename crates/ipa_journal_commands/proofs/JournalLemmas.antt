@@ -6,7 +6,7 @@
 --   verdict-of_input    the status of an audit is one that an input can have
 --   item_of         the item of which something is a part
 --   asked-each      each request of a document fits its setting
-use Rattle.std.proofs.Common.{◌≡◌, ◌∙◌, Option, Some, None, map, slice_get, ◌+◌, ◌≤◌, ◌<◌, ◌^◌, ℕ, Bool, true, false, refl, List, [], ◌∷◌, ◌++◌, length, sym, subst, arith, if◌then◌else◌}
+use Rattle.std.proofs.Common.{◌≡◌, ◌∙◌, Option, Some, None, slice_get, ◌+◌, ◌≤◌, ℕ, Bool, true, false, refl, List, [], ◌∷◌, ◌++◌, length, sym, subst, arith, if◌then◌else◌}
 use Rattle.std.specs.List.{All, count_by}
 use Rattle.std.specs.Option.{option_map}
 use Rattle.std.proofs.lemmas.List.Elements.{All-head, All-tail}

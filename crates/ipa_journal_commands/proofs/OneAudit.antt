@@ -12,7 +12,7 @@ use Rattle.std.specs.Prelude.{codes}
 use Rattle.std.specs.Fmt.{decimal}
 use Rattle.std.specs.Option.{option_map}
 use Rattle.std.proofs.lemmas.Bool.{cases_order}
-use Rattle.std.proofs.lemmas.List.{length-map, take-map, take-take}
+use Rattle.std.proofs.lemmas.List.{length-map, take-take}
 use Rattle.std.proofs.lemmas.Option.{same_Some, slice_get-map}
 use Rattle.ipa_spec.specs.Fits.{IsFit}
 use Rattle.ipa_spec.specs.declared.names.Name.{Name}

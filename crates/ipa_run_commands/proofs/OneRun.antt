@@ -4,13 +4,10 @@
 --   one-turned_down   an input that is turned down has one status and text
 --   one-told          so has a run of an input
 --   one-run           an input has one verdict, for what is handed back
-use Rattle.std.proofs.Common.{◌≡◌, ℕ, List, Option, Some, None, sym, ap, ◌∙◌, subst}
-use Rattle.ipa_history.specs.declared.outcomes.Fate.{Fate}
-use Rattle.ipa_history.specs.declared.outcomes.SimEnd.{SimEnd}
+use Rattle.std.proofs.Common.{◌≡◌, ℕ, List, Some, None, sym, ap, ◌∙◌, subst}
 use Rattle.ipa_reader.specs.declared.document.Document.{Document}
 use Rattle.ipa_command.specs.Verdicts.{AfterWidth, AfterAcceptance, Nothing, longest_document}
 use Rattle.ipa_command.specs.VerdictLaws.{AreOne, IsOne, one-after_length, one-after_reading, one-after_width, one-after_acceptance}
-use Rattle.ipa_command.specs.declared.status.Status.{Status}
 use Rattle.ipa_run_commands.specs.Runs.{told}
 use Rattle.ipa_run_commands.specs.RunVerdicts.{Handed, nothing, handed_of, IsUnfit, IsTurnedDown, IsTold, RunVerdict}
 use Rattle.ipa_run_commands.specs.RunVerdicts.RunVerdict.{turned_down, runs}
