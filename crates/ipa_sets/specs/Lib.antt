@@ -1,4 +1,5 @@
 pub mod Keys
+pub mod Shapes
 pub mod KeyLaws
 pub mod Lasts
 pub mod LastLaws

@@ -38,6 +38,7 @@ mod listing;
 mod numbers;
 mod patterns;
 mod rows;
+mod shapes;
 mod taking;
 
 pub use at_cut::AtCut;

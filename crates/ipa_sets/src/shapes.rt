@@ -1,0 +1,60 @@
+//! Which shapes of patterns there are: a shape is a predicate, and the places that have an element.
+ghost use Rattle.std.specs.Prelude.{◌≡◌, ◌<◌, ◌≤◌, ℕ, true, false, slice_index_or};
+ghost use Rattle.std.specs.Option.{option_map_or};
+ghost use Rattle.ipa_sets.specs.Shapes.{weight, shape, has_shape};
+ghost use Rattle.ipa_sets.specs.declared.patterns.Pattern.{Pattern as ThePattern};
+
+use crate::patterns::Pattern;
+
+/// Shapes of patterns. Most are never met, and a look tells so.
+#[derive(Drop)]
+pub struct Shapes {
+    // For each predicate and each choice of places whether there is a pattern of this shape.
+    met: [bool; 2048],
+}
+
+impl Shapes {
+    /// No shapes.
+    pub fn new() -> Shapes
+        ensures { (p : ThePattern) → has_shape result p ≡ false }
+    {
+        Shapes { met: [false; 2048] }
+    }
+
+    /// Adds the shape of the pattern.
+    pub fn add(&mut self, pattern: &Pattern)
+        ensures here { has_shape self.new pattern.now ≡ true }
+        ensures kept { (p : ThePattern) → has_shape self.old p ≡ true → has_shape self.new p ≡ true }
+    {
+        self.met[shape_of(pattern)] = true;
+    }
+
+    /// Whether the shape of the pattern was added.
+    pub fn has(&self, pattern: &Pattern) -> bool
+        ensures { result ≡ has_shape self.now pattern.now }
+    {
+        self.met[shape_of(pattern)]
+    }
+}
+
+// The number of the pattern's shape.
+fn shape_of(pattern: &Pattern) -> usize
+    ensures value { result ≡ shape pattern.now }
+    ensures low { result < 2048 }
+{
+    usize::from(pattern.predicate) * 8
+        + weight(4, pattern.places[0])
+        + weight(2, pattern.places[1])
+        + weight(1, pattern.places[2])
+}
+
+// The weight of a place with any element, and 0 of one that has an element.
+fn weight(weight: usize, place: Option<u16>) -> usize
+    ensures value { result ≡ weight weight place }
+    ensures low { result ≤ weight }
+{
+    match place {
+        Some(_) => 0,
+        None => weight,
+    }
+}
