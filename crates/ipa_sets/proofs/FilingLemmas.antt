@@ -50,6 +50,11 @@ module _ (old new : BTreeMap Key ByOrigin) (key : Key) (lists : ByOrigin) (put :
   put_stay stay k o = put_each
       (λ q x. is_room_in old q o ≡ true → option_map_or (λ ls. is_ready_at ls o) x false ≡ true) (stay o) (λ q h. h) k
 
+  -- so no number is filed and no room is lost, where that is so at the key
+  pub put_roomier : ((o : ℕ) → numbers_at lists o ≡ filed_in old key o) →
+      ((o : ℕ) → is_room_in old key o ≡ true → is_ready_at lists o ≡ true) → IsRoomier old new
+  put_roomier same stay = record { same = put_same same; stay = put_stay stay }
+
 -- no numbers are filed under a key that is not known, and there is no room
 pub none_filed : (m : BTreeMap Key ByOrigin) (k : Key) (o : ℕ) → get key_cmp m k ≡ None → filed_in m k o ≡ []
 none_filed m k o none = ap (λ (x : Option ByOrigin). option_map_or (λ ls. numbers_at ls o) x []) none

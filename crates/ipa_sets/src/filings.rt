@@ -1,5 +1,5 @@
 //! Numbers filed under keys, for each origin.
-ghost use Rattle.std.specs.Prelude.{◌≡◌, ◌<◌, ℕ, true, false, None, slice_index_or, OnOk, IsSome};
+ghost use Rattle.std.specs.Prelude.{◌≡◌, ◌<◌, ℕ, true, false, None, slice_index_or, IfOk, OnOk, IsSome};
 ghost use Rattle.std.specs.BTreeMap.{get};
 ghost use Rattle.ipa_clock.specs.Cut.{count_of};
 ghost use Rattle.ipa_sets.specs.FilingLaws.{AreMet-prop};
@@ -81,35 +81,41 @@ fn meet(removes: &mut Shapes, key: &Key)
     }
 }
 
-// Makes the key known. No number is filed.
-fn know(lists: &mut BTreeMap<Key, ByOrigin>, alloc: Global, key: Key) -> Result<(), AllocError>
-    ensures same { (k : TheKey) (o : ℕ) → filed_in lists.new k o ≡ filed_in lists.old k o }
-    ensures stay { (k : TheKey) (o : ℕ) → is_room_in lists.old k o ≡ true → is_room_in lists.new k o ≡ true }
-    ensures known { OnOk result (IsSome (get key_cmp lists.new key)) }
-    ensures keys { IsWithKey lists.old lists.new key }
-{
-    if !lists.contains_key(&key) {
-        lists.insert(key, ByOrigin::new(alloc))?;
-    }
-    Ok(())
-}
-
-// Takes room for one more number of the origin under a key that is known. No number is filed.
-fn widen(lists: &mut BTreeMap<Key, ByOrigin>, key: &Key, origin: u8) -> Result<(), AllocError>
-    requires origin { origin < 16 }
-    requires known { IsSome (get key_cmp lists.old key.now) }
-    ensures same { (k : TheKey) (o : ℕ) → filed_in lists.new k o ≡ filed_in lists.old k o }
-    ensures stay { (k : TheKey) (o : ℕ) → is_room_in lists.old k o ≡ true → is_room_in lists.new k o ≡ true }
-    ensures room { OnOk result (is_room_in lists.new key.now origin ≡ true) }
+// Takes room for one more number of the origin under the key, if it is known, and answers whether it is. No number is
+// filed.
+fn widen(lists: &mut BTreeMap<Key, ByOrigin>, key: &Key, origin: u8) -> Result<bool, AllocError>
+    requires { origin < 16 }
+    ensures roomier { IsRoomier lists.old lists.new }
+    ensures room { IfOk result (λ known. known ≡ true → is_room_in lists.new key.now origin ≡ true) }
+    ensures absent { IfOk result (λ known. known ≡ false → get key_cmp lists.new key.now ≡ None) }
     ensures keys { IsWithKey lists.old lists.new key.now }
 {
     match lists.get_mut(key) {
         Some(numbers) => {
             numbers.reserve(origin)?;
-            Ok(())
+            Ok(true)
         }
-        None => Ok(()),
+        None => Ok(false),
     }
+}
+
+// Makes a key known, with room for one number of the origin. No number is filed.
+fn know(
+    lists: &mut BTreeMap<Key, ByOrigin>,
+    alloc: Global,
+    key: Key,
+    origin: u8,
+) -> Result<(), AllocError>
+    requires origin { origin < 16 }
+    requires absent { get key_cmp lists.old key ≡ None }
+    ensures roomier { IsRoomier lists.old lists.new }
+    ensures room { OnOk result (is_room_in lists.new key origin ≡ true) }
+    ensures keys { IsWithKey lists.old lists.new key }
+{
+    let mut numbers = ByOrigin::new(alloc);
+    numbers.reserve(origin)?;
+    lists.insert(key, numbers)?;
+    Ok(())
 }
 
 // Takes room for one more number of the origin under a key. No number is filed, also where memory is wanting.
@@ -124,8 +130,10 @@ fn make_room(
     ensures room { OnOk result (is_room_in lists.new key origin ≡ true) }
     ensures keys { IsWithKey lists.old lists.new key }
 {
-    know(lists, alloc, key)?;
-    widen(lists, &key, origin)?;
+    if widen(lists, &key, origin)? {
+        return Ok(());
+    }
+    know(lists, alloc, key, origin)?;
     Ok(())
 }
 
