@@ -3,7 +3,6 @@ use Rattle.std.proofs.Common.{◌≡◌, ℕ, zero, suc, ◌+◌, ◌≤◌, Boo
 use Rattle.std.specs.Prelude.{◌==◌}
 use Rattle.std.specs.List.{list_any}
 use Rattle.std.specs.Option.{option_map_or}
-use Rattle.std.specs.HashMap.{HashMap, spare}
 use Rattle.std.specs.Ordering.{is_eq}
 use Rattle.std.proofs.Math.Bool.{or-false}
 use Rattle.std.proofs.lemmas.Bool.{false≢true, or_cases, or_left, or_right}
@@ -23,7 +22,7 @@ use Rattle.ipa_history.specs.Values.{adds_fact}
 use Rattle.ipa_history.specs.declared.history.Tx.{Tx}
 use Rattle.ipa_sets.specs.Keys.{key_cmp, key_of, has_key}
 use Rattle.ipa_sets.specs.Lasts.{tx_at}
-use Rattle.ipa_sets.specs.Rows.{has_row, row_in, put_in}
+use Rattle.ipa_sets.specs.Rows.{RowTable, spare, has_row, row_in, put_in}
 use Rattle.ipa_sets.specs.declared.keys.Key.{Key}
 
 -- one more of a list that may pass
@@ -70,7 +69,7 @@ effects-few s fit (Drop n) = by_bound (slice_get s.bounds n) refl
     by_bound (Some b) e = let few = fit.remove_count n b e in omega (arith, few)
 
 -- a transaction with some of its effects put into the rows of their keys
-pub record ArePut {S : Type 0} (s : Specification) (t : Tx) (old new : HashMap Key (List (Option Tx)) S) (i : ℕ) : Type 0 where
+pub record ArePut (s : Specification) (t : Tx) (old new : RowTable) (i : ℕ) : Type 0 where
   pub rows : (k : Key) (o : ℕ) → tx_at (row_in new k) o
       ≡ put_in (list_any (λ e. is_eq (key_cmp (key_of s t.args e) k)) (take i (effects_of s t.action))) t (row_in old k) o
   pub kept : (k : Key) → has_row old k ≡ true → has_row new k ≡ true
@@ -85,7 +84,7 @@ put-twice false true true t x = refl
 put-twice false true false t x = refl
 put-twice false false here t x = refl
 
-pub put-more : {S : Type 0} (s : Specification) (t : Tx) (old mid new : HashMap Key (List (Option Tx)) S) (i : ℕ) → ArePut s t old mid i
+pub put-more : (s : Specification) (t : Tx) (old mid new : RowTable) (i : ℕ) → ArePut s t old mid i
     → ((k : Key) (o : ℕ) → tx_at (row_in new k) o
     ≡ put_in (option_map_or (λ e. is_eq (key_cmp (key_of s t.args e) k)) (slice_get (effects_of s t.action) i) false) t (row_in mid k) o)
     → ((k : Key) → has_row mid k ≡ true → has_row new k ≡ true)
@@ -103,21 +102,21 @@ put-more s t old mid new i was put kept room = record {
   room = let low = was.room in omega (arith, low, room);
 }
 
-pub put-all : {S : Type 0} (s : Specification) (t : Tx) (old new : HashMap Key (List (Option Tx)) S) (i : ℕ) → length (effects_of s t.action) ≤ i
+pub put-all : (s : Specification) (t : Tx) (old new : RowTable) (i : ℕ) → length (effects_of s t.action) ≤ i
     → ArePut s t old new i → (k : Key) (o : ℕ) → tx_at (row_in new k) o ≡ put_in (has_key s k t) t (row_in old k) o
 put-all s t old new i few are k o = are.rows k o
     ∙ ap (λ (es : List Effect). put_in (list_any (λ e. is_eq (key_cmp (key_of s t.args e) k)) es) t (row_in old k) o)
     (take_all i (effects_of s t.action) few)
 
 -- a table with a row for the key of each of some effects, and the same in each row
-pub record AreMade {S : Type 0} (s : Specification) (t : Tx) (old new : HashMap Key (List (Option Tx)) S) (i : ℕ) : Type 0 where
+pub record AreMade (s : Specification) (t : Tx) (old new : RowTable) (i : ℕ) : Type 0 where
   pub made : (k : Key) → list_any (λ e. is_eq (key_cmp (key_of s t.args e) k)) (take i (effects_of s t.action)) ≡ true
       → has_row new k ≡ true
   pub same : (k : Key) → row_in new k ≡ row_in old k
   pub kept : (k : Key) → has_row old k ≡ true → has_row new k ≡ true
   pub room : spare old ≤ spare new + i
 
-pub made-none : {S : Type 0} (s : Specification) (t : Tx) (table : HashMap Key (List (Option Tx)) S) → AreMade s t table table 0
+pub made-none : (s : Specification) (t : Tx) (table : RowTable) → AreMade s t table table 0
 made-none s t table = record {
   made = λ k h. absurd (any-none (λ e. is_eq (key_cmp (key_of s t.args e) k)) (effects_of s t.action) h);
   same = λ k. refl;
@@ -125,7 +124,7 @@ made-none s t table = record {
   room = omega arith;
 }
 
-pub made-more : {S : Type 0} (s : Specification) (t : Tx) (old mid new : HashMap Key (List (Option Tx)) S) (i : ℕ) → AreMade s t old mid i
+pub made-more : (s : Specification) (t : Tx) (old mid new : RowTable) (i : ℕ) → AreMade s t old mid i
     → ((k : Key) → option_map_or (λ e. is_eq (key_cmp (key_of s t.args e) k)) (slice_get (effects_of s t.action) i) false ≡ true
     → has_row new k ≡ true)
     → ((k : Key) → row_in new k ≡ row_in mid k) → ((k : Key) → has_row mid k ≡ true → has_row new k ≡ true)
@@ -142,7 +141,7 @@ made-more s t old mid new i was made same kept room = record {
   room = let low = was.room in omega (arith, low, room);
 }
 
-pub made-all : {S : Type 0} (s : Specification) (t : Tx) (old new : HashMap Key (List (Option Tx)) S) (i : ℕ) → length (effects_of s t.action) ≤ i
+pub made-all : (s : Specification) (t : Tx) (old new : RowTable) (i : ℕ) → length (effects_of s t.action) ≤ i
     → AreMade s t old new i → (k : Key) → has_key s k t ≡ true → has_row new k ≡ true
 made-all s t old new i few are k h = are.made k
     (ap (λ (es : List Effect). list_any (λ e. is_eq (key_cmp (key_of s t.args e) k)) es) (take_all i (effects_of s t.action) few) ∙ h)

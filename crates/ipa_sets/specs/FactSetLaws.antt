@@ -27,7 +27,7 @@ use Rattle.ipa_sets.specs.LastLaws.{value-lasts, age-lasts}
 use Rattle.ipa_sets.specs.Lasts.{tx_at, IsRowOf, AreLastsOf, value_by_lasts, age_by_lasts}
 use Rattle.ipa_sets.specs.Listings.{has-listed, rising-listed}
 use Rattle.ipa_sets.specs.RowLaws.{lasts-rows, row-push, row-empty}
-use Rattle.ipa_sets.specs.Rows.{no_row, row_in, put_in}
+use Rattle.ipa_sets.specs.Rows.{no_row, row_in, lasts_in, put_in}
 use Rattle.ipa_sets.specs.declared.facts.Facts.{Facts}
 use Rattle.ipa_sets.specs.declared.keys.Key.{Key}
 
@@ -35,7 +35,7 @@ module _ (s : Specification) (start : List Fact) (taken : List Tx) (facts : Fact
     (is : IsFactsOf s start taken facts) where
   -- the last effects that the set has are those of the history
   lasts-of : (f : Fact) → AreLastsOf s f taken (lasts_on facts f)
-  unfolding lasts_on
+  unfolding lasts_on lasts_in
   lasts-of f = lasts-rows taken is.history.origins s f facts.rows is.rows
 
   -- the value that the set gives a fact is that of the history

@@ -9,7 +9,6 @@
 --
 -- That its true facts and their ages are those of the history is shown in FactSetLaws.
 use Rattle.std.specs.Prelude.{◌≡◌, ℕ, ◌*◌, ◌+◌, ◌≤◌, Bool, true, false, List, Option, slice_index_or}
-use Rattle.std.specs.HashMap.{spare}
 use Rattle.std.specs.Vec.{vec_len, vec_capacity}
 use Rattle.ipa_spec.specs.declared.specification.Specification.{Specification}
 use Rattle.ipa_logic.specs.Facts.{has, IsRising}
@@ -18,17 +17,17 @@ use Rattle.ipa_logic.specs.declared.facts.Fact.{Fact}
 use Rattle.ipa_history.specs.Histories.{IsMember, IsHistory}
 use Rattle.ipa_history.specs.Values.{adds_fact}
 use Rattle.ipa_history.specs.declared.history.Tx.{Tx}
-use Rattle.ipa_sets.specs.Keys.{add_key, has_key}
+use Rattle.ipa_sets.specs.Keys.{has_key}
 use Rattle.ipa_sets.specs.Lasts.{IsRowOf, value_by_lasts}
 use Rattle.ipa_sets.specs.Listings.{listed}
-use Rattle.ipa_sets.specs.Rows.{has_row, row_in, removing_row, lasts_of_rows}
+use Rattle.ipa_sets.specs.Rows.{spare, has_row, row_in, lasts_in}
 use Rattle.ipa_sets.specs.declared.facts.Facts.{Facts}
 use Rattle.ipa_sets.specs.declared.keys.Key.{Key}
 use Rattle.ipa_sets.specs.declared.lasts.Last.{Last}
 
 -- the last effect of each origin on a fact
 unfoldable pub lasts_on : Facts → Fact → List (Option Last)
-lasts_on facts f = lasts_of_rows (row_in facts.rows (add_key f)) (removing_row facts.rows f)
+lasts_on facts f = lasts_in facts.rows f
 
 -- the value that they give it
 unfoldable pub truth_of : Facts → Fact → Bool

@@ -10,7 +10,6 @@
 --   row-empty            nothing is in the rows of the history without transactions
 use Rattle.std.proofs.Common.{◌≡◌, ℕ, zero, suc, ◌+◌, ◌<◌, ◌≤◌, Bool, true, false, not, ◌&&◌, ◌||◌, cond, List, [], ◌∷◌, ◌++◌, length, refl, sym, ◌∙◌, ap, subst, arith, Option, Some, None, slice_get, take, ◌⊎◌, inl, inr}
 use Rattle.std.specs.Prelude.{◌==◌, nat_lt, MatchOption, replicate, slice_index_or}
-use Rattle.std.specs.HashMap.{HashMap}
 use Rattle.std.specs.List.{fold, list_any}
 use Rattle.std.proofs.lemmas.Bool.{and_parts, and_from, not_from_false, cases_lt, both_ways, false_from_ne_true, or_cases, or_left, or_right, false≢true, eqb-true, eq-eqb, ltb-true, lt-ltb}
 use Rattle.std.proofs.Math.Bool.{or-false, or_assoc}
@@ -29,7 +28,7 @@ use Rattle.ipa_history.specs.declared.history.Tx.{Tx}
 use Rattle.ipa_sets.specs.KeyLaws.{adds-keyed, takes-keyed}
 use Rattle.ipa_sets.specs.Keys.{add_key, remove_keys, has_key}
 use Rattle.ipa_sets.specs.Lasts.{tx_at, NonePasses, IsLastIn, IsRowOf, IsLastOn, AreLastsOf}
-use Rattle.ipa_sets.specs.Rows.{by_origin, no_row, row_in, later, later_row, removing_row, last_from, lasts_of_rows, put_in}
+use Rattle.ipa_sets.specs.Rows.{RowTable, by_origin, no_row, row_in, later, later_row, removing_row, last_from, lasts_of_rows, put_in}
 use Rattle.ipa_sets.specs.declared.keys.Key.{Key}
 use Rattle.ipa_sets.specs.declared.lasts.Last.{Last}
 
@@ -130,7 +129,7 @@ module _ (ms : List Tx) where
     }
 
     -- rows of some keys, one after the other
-    rows-fold : {S : Type 0} (s : Specification) (table : HashMap Key (List (Option Tx)) S) →
+    rows-fold : (s : Specification) (table : RowTable) →
         ((k : Key) → IsRowOf (has_key s k) ms (row_in table k)) →
         (ks : List Key) (p : Tx → Bool) (row : List (Option Tx)) →
         IsRowOf p ms row → IsRowOf (λ t. p t || list_any (λ k. has_key s k t) ks) ms
@@ -144,7 +143,7 @@ module _ (ms : List Tx) where
         (rows-fold s table rows ks (λ t. p t || has_key s k t) (later_row row (row_in table k))
         (row-later p (has_key s k) row (row_in table k) is (rows k)))
 
-    module _ {S : Type 0} (s : Specification) (f : Fact) (table : HashMap Key (List (Option Tx)) S)
+    module _ (s : Specification) (f : Fact) (table : RowTable)
         (rows : (k : Key) → IsRowOf (has_key s k) ms (row_in table k)) where
       abbrev takes_fact : Tx → Bool
       takes_fact t = some_takes s (effects_of s t.action) t.args f

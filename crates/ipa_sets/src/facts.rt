@@ -1,6 +1,5 @@
 //! The set of facts of one history, kept up to date.
 ghost use Rattle.std.specs.Prelude.{◌≡◌, ◌+◌, ◌*◌, ◌≤◌, ◌<◌, ◌++◌, ◌∷◌, ◌||◌, [], ℕ, List, IsOk, OnOk, OnErr, IfOk, true, false, slice_index_or};
-ghost use Rattle.std.specs.HashMap.{spare};
 ghost use Rattle.ipa_logic.specs.Facts.{has, IsRising};
 ghost use Rattle.ipa_logic.specs.Touches.{has_rule, is_add_wins};
 ghost use Rattle.ipa_logic.specs.declared.facts.Fact.{Fact as TheFact};
@@ -9,19 +8,18 @@ ghost use Rattle.ipa_history.specs.declared.history.Tx.{Tx as TheTx};
 ghost use Rattle.ipa_spec.specs.declared.specification.Specification.{Specification};
 ghost use Rattle.ipa_sets.specs.FactSets.{lasts_on, truth_of, true_facts, IsFactsOf, HasRoom, IsReadyFor};
 ghost use Rattle.ipa_sets.specs.Lasts.{age_by_lasts};
+ghost use Rattle.ipa_sets.specs.Rows.{spare};
 
-use crate::keys::{Key, add_key};
 use crate::known::Known;
 use crate::lasts::{Last, age_by_lasts, value_by_lasts};
 use crate::listing::{Test, insert_passing, next_listed};
-use crate::rows::{lasts_of_rows, make_rows, put_effects, removing_row, row_in};
+use crate::rows::Rows;
 use ipa_bounds::AgedView;
 use ipa_history::Tx;
 use ipa_logic::{Age, Fact, State, View};
 use ipa_spec::laws::spec_is_fit;
 use ipa_spec::{Rule, Spec};
 use std::alloc::{AllocError, Global};
-use std::collections::HashMap;
 
 /// The set of facts of a history: a view of the state at its whole cut, with the age of each true fact.
 #[derive(Drop)]
@@ -35,7 +33,7 @@ pub struct Facts {
     // The facts that some transaction adds, and maybe others.
     known: Known,
     // For each key of an effect and each origin the last transaction that has it.
-    rows: HashMap<Key, [Option<Tx>; 16]>,
+    rows: Rows,
 }
 
 impl Facts {
@@ -49,7 +47,7 @@ impl Facts {
             base,
             adds_win: adds_win(spec),
             known: Known::new(alloc),
-            rows: HashMap::new(alloc),
+            rows: Rows::new(alloc),
         }
     }
 
@@ -78,7 +76,7 @@ impl Facts {
         ensures spare { spare self.old.rows ≤ spare self.new.rows + 12 }
     {
         self.known.insert_added(spec, tx)?;
-        make_rows(spec, &mut self.rows, tx)?;
+        self.rows.make_rows(spec, tx)?;
         Ok(())
     }
 
@@ -97,7 +95,7 @@ impl Facts {
         if tx.dot.origin >= 16 {
             return Ok(());
         }
-        put_effects(spec, &mut self.rows, tx)?;
+        self.rows.put_effects(spec, tx)?;
         Ok(())
     }
 
@@ -128,10 +126,7 @@ impl Facts {
     fn lasts_on(&self, fact: &Fact) -> [Option<Last>; 16]
         ensures { result ≡ lasts_on self.now fact.now }
     {
-        lasts_of_rows(
-            &row_in(&self.rows, add_key(fact)),
-            &removing_row(&self.rows, fact),
-        )
+        self.rows.lasts_on(fact)
     }
 }
 

@@ -20,7 +20,7 @@ returns-in_err-insert_added-clause-again c ready = absurd (false≢true (c.in_er
 
 pub returns-in_err-make_rows-clause-same : goal.returns-in_err-make_rows-clause-same
 returns-in_err-make_rows-clause-same c s base taken is = facts-same s base taken c.args.self.now is
-    (record c.args.self.now { known = c.insert_added.new.self; rows = c.make_rows.new.table }) refl refl
+    (record c.args.self.now { known = c.insert_added.new.self; rows = c.make_rows.new.self }) refl refl
     c.insert_added.ensures.kept c.make_rows.ensures.same
 
 pub returns-in_err-make_rows-clause-kept : goal.returns-in_err-make_rows-clause-kept
@@ -41,7 +41,7 @@ returns-clause-ready c = record {
 
 pub returns-clause-same : goal.returns-clause-same
 returns-clause-same c s base taken is = facts-same s base taken c.args.self.now is
-    (record c.args.self.now { known = c.insert_added.new.self; rows = c.make_rows.new.table }) refl refl
+    (record c.args.self.now { known = c.insert_added.new.self; rows = c.make_rows.new.self }) refl refl
     c.insert_added.ensures.kept c.make_rows.ensures.same
 
 pub returns-clause-kept : goal.returns-clause-kept

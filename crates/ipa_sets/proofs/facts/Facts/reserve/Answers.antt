@@ -11,4 +11,4 @@ pub returns-clause-same : goal.returns-clause-same
 returns-clause-same c s base taken is = facts-same s base taken c.args.self.now is
     (record c.args.self.now { known = c.reserve.new.self; rows = c.reserve-2.new.self }) refl refl
     (λ f h. subst (λ (xs : List Fact). has xs f ≡ true) (sym c.reserve.ensures.facts) h)
-    (λ k. ap (λ (x : Option (List (Option Tx))). unwrap_or x no_row) (c.reserve-2.ensures.entries.2 k))
+    (λ k. ap (λ (x : Option (List (Option Tx))). unwrap_or x no_row) (c.reserve-2.ensures.same k))

@@ -26,7 +26,7 @@ returns-in_err-put_effects-clause-kept c u ready = absurd (false≢true (c.in_er
 pub returns-clause-taken : goal.returns-clause-taken
 returns-clause-taken c base taken is history = facts-push c.args.spec.now base taken c.prepare.new.self
     (c.prepare.ensures.same c.args.spec.now base taken is)
-    (record c.prepare.new.self { rows = c.put_effects.new.table }) c.args.tx.now history refl refl
+    (record c.prepare.new.self { rows = c.put_effects.new.self }) c.args.tx.now history refl refl
     (λ f h. h) c.in_ok-prepare.ensures.ready.known c.in_ok-put_effects.ensures.rows
 
 pub returns-clause-room : goal.returns-clause-room

@@ -4,11 +4,11 @@ use Rattle.ipa_spec.specs.Actions.{effects_of}
 use Rattle.ipa_sets.specs.Rows.{row_in, put_in}
 use Rattle.ipa_sets.proofs.RowLemmas.{put-keyed, keyed-itself}
 use Rattle.std.proofs.lemmas.Bool.{false≢true}
-use Rattle.ipa_sets.proofs.rows.put_effect.Goals as goal
+use Rattle.ipa_sets.proofs.rows.Rows.put_effect.Goals as goal
 
 pub returns-in_ok-put-in-Some-clause-rows : goal.returns-in_ok-put-in-Some-clause-rows
 returns-in_ok-put-in-Some-clause-rows c k o = c.in_ok-put-in-Some.ensures.rows k o
-    ∙ ap (λ (b : Bool). put_in b c.args.tx.now (row_in c.args.table.now k) o)
+    ∙ ap (λ (b : Bool). put_in b c.args.tx.now (row_in c.args.self.now k) o)
     (put-keyed c.args.spec.now c.args.tx.now.args c.in-Some.effect
     (slice_get (effects_of c.args.spec.now c.args.tx.now.action) c.args.place) c.key_of.result k c.in-Some.ensures c.key_of.ensures)
 

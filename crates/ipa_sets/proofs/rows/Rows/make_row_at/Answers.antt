@@ -3,7 +3,7 @@ use Rattle.std.specs.Prelude.{slice_get}
 use Rattle.std.proofs.lemmas.Bool.{false≢true}
 use Rattle.ipa_spec.specs.Actions.{effects_of}
 use Rattle.ipa_sets.proofs.RowLemmas.{put-keyed, keyed-itself}
-use Rattle.ipa_sets.proofs.rows.make_row_at.Goals as goal
+use Rattle.ipa_sets.proofs.rows.Rows.make_row_at.Goals as goal
 
 pub returns-in_ok-make_row-in-Some-clause-made : goal.returns-in_ok-make_row-in-Some-clause-made
 returns-in_ok-make_row-in-Some-clause-made c k h = c.in_ok-make_row-in-Some.ensures.made k
