@@ -1,18 +1,21 @@
 -- Lemmas for numbers that are filed under keys.
 use Rattle.std.proofs.Common.{◌≡◌, ℕ, Bool, true, false, cond, List, [], Option, Some, None, Result, Ok, Err, refl, sym, ◌∙◌, ap, subst, ◌⊎◌, inl, inr}
-use Rattle.std.specs.Prelude.{◌==◌, IsOk, OnOk}
+use Rattle.std.specs.Prelude.{◌==◌, IsOk, IsSome, OnOk}
 use Rattle.std.specs.Option.{option_map_or}
 use Rattle.std.specs.Ordering.{is_eq}
 use Rattle.std.specs.BTreeMap.{BTreeMap, get}
 use Rattle.std.proofs.lemmas.Bool.{cases_Bool, false≢true, eqb-true}
 use Rattle.ipa_history.specs.Histories.{IsMember}
 use Rattle.ipa_sets.specs.ByOrigins.{numbers_at, is_ready_at}
-use Rattle.ipa_sets.specs.Filings.{filed_in, is_room_in, HasRoomFor, IsRoomier, IsThis, IsFiledAt}
+use Rattle.ipa_sets.specs.Filings.{AreMet, IsWithKey, filed_in, is_room_in, HasRoomFor, IsRoomier, IsThis, IsFiledAt}
 use Rattle.ipa_sets.specs.Keys.{key_cmp}
 use Rattle.ipa_sets.specs.KeyLaws.{key_cmp-same, key_cmp-itself}
 use Rattle.ipa_sets.specs.Numbers.{IsWith}
+use Rattle.ipa_sets.specs.Shapes.{has_shape}
 use Rattle.ipa_sets.specs.declared.by_origin.ByOrigin.{ByOrigin}
 use Rattle.ipa_sets.specs.declared.keys.Key.{Key}
+use Rattle.ipa_sets.specs.declared.patterns.Pattern.{Pattern}
+use Rattle.ipa_sets.specs.declared.shapes.Shapes.{Shapes}
 
 -- what a map has after a key took a value
 abbrev pub IsPut : BTreeMap Key ByOrigin → BTreeMap Key ByOrigin → Key → ByOrigin → Type 0
@@ -46,6 +49,11 @@ module _ (old new : BTreeMap Key ByOrigin) (key : Key) (lists : ByOrigin) (put :
       is_room_in old k o ≡ true → is_room_in new k o ≡ true
   put_stay stay k o = put_each
       (λ q x. is_room_in old q o ≡ true → option_map_or (λ ls. is_ready_at ls o) x false ≡ true) (stay o) (λ q h. h) k
+
+  -- so no number is filed and no room is lost, where that is so at the key
+  pub put_roomier : ((o : ℕ) → numbers_at lists o ≡ filed_in old key o) →
+      ((o : ℕ) → is_room_in old key o ≡ true → is_ready_at lists o ≡ true) → IsRoomier old new
+  put_roomier same stay = record { same = put_same same; stay = put_stay stay }
 
 -- no numbers are filed under a key that is not known, and there is no room
 pub none_filed : (m : BTreeMap Key ByOrigin) (k : Key) (o : ℕ) → get key_cmp m k ≡ None → filed_in m k o ≡ []
@@ -125,3 +133,29 @@ filed_step old new key was now o n had put with others = record {
       | inr apart ↦ inl (subst (λ (xs : List ℕ). IsMember xs m) (some_filed old key p was had)
           (subst (λ (xs : List ℕ). IsMember xs m) (others p apart) i))
     ]
+
+-- a key is known that takes a value, and no other becomes known
+pub put_key : (old new : BTreeMap Key ByOrigin) (key : Key) (lists : ByOrigin) → IsPut old new key lists →
+    IsWithKey old new key
+put_key old new key lists put k known = elim (cases_Bool (is_eq (key_cmp key k))) [
+  | inl same ↦ inr (sym (key_cmp-same key k same))
+  | inr apart ↦ inl (subst (λ (x : Option ByOrigin). IsSome x) (put_other old new key lists put k apart) known)
+]
+
+-- where the key was known, none becomes known
+pub put_known : (old new : BTreeMap Key ByOrigin) (key : Key) (was lists : ByOrigin) → IsPut old new key lists →
+    get key_cmp old key ≡ Some was → (k : Key) → IsSome (get key_cmp new k) → IsSome (get key_cmp old k)
+put_known old new key was lists put had k known = elim (put_key old new key lists put k known) [
+  | inl before ↦ before
+  | inr same ↦ subst (λ (q : Key). IsSome (get key_cmp old q)) (sym same)
+      (subst (λ (x : Option ByOrigin). IsSome x) (sym had) refl)
+]
+
+-- the shapes stay those of the keys, where none has become known but one that has its shape
+pub met_with : (old new : BTreeMap Key ByOrigin) (key : Key) (was now : Shapes) → AreMet old was → IsWithKey old new key →
+    (key.adds ≡ false → has_shape now key.pattern ≡ true)
+    → ((p : Pattern) → has_shape was p ≡ true → has_shape now p ≡ true) → AreMet new now
+met_with old new key was now met with here kept k known removes = elim (with k known) [
+  | inl before ↦ kept k.pattern (met k before removes)
+  | inr same ↦ subst (λ (q : Key). q.adds ≡ false → has_shape now q.pattern ≡ true) (sym same) here removes
+]

@@ -75,11 +75,11 @@ module _ (s : Specification) (fit : IsFit s) (t : Tx) where
       omega (arith, few, within)
 
   -- there is room for the transaction under its keys
-  pub rooms_for : (index : Index) → IsReadyFor s t index → HasRooms s t index.filed
-  rooms_for index ready = readied_rooms s t index.filed index.known 12 effect_low ready.effects
+  pub rooms_for : (index : Index) → IsReadyFor s t index → HasRooms s t index.filed.lists
+  rooms_for index ready = readied_rooms s t index.filed.lists index.known 12 effect_low ready.effects
 
   -- the transaction is filed under all its keys
-  files_all : (mid new : Index) → FilesFirst s t 12 mid.filed new.filed → Files s t (filed mid) (filed new)
+  files_all : (mid new : Index) → FilesFirst s t 12 mid.filed.lists new.filed.lists → Files s t (filed mid) (filed new)
   files_all mid new files = record {
     kept = files.kept;
     added = λ k h.
@@ -108,7 +108,7 @@ module _ (s : Specification) (fit : IsFit s) (t : Tx) where
     place_low place e = subst (λ (n : ℕ). AreUpTo (numbers_at mid.places t.dot.origin) n) (sym e)
         (places_low mid.entries (numbers_at mid.places) is.placed t.dot.origin)
 
-    pub rising_for : AreFiledUpTo mid.filed t.dot.origin t.dot.number
+    pub rising_for : AreFiledUpTo mid.filed.lists t.dot.origin t.dot.number
     rising_for = record { each = λ k. numbers_low mid.entries t next s (filed mid) is.filed_so k }
 
     -- the index with the transaction
@@ -116,7 +116,7 @@ module _ (s : Specification) (fit : IsFit s) (t : Tx) where
         → new.room.items ≡ [] → new.entries ≡ mid.entries ++ t ∷ []
         → ((o : ℕ) → numbers_at new.places o
         ≡ cond (o == t.dot.origin) (numbers_at mid.places t.dot.origin ++ place ∷ []) (numbers_at mid.places o))
-        → FilesFirst s t 12 mid.filed new.filed → new.known ≡ mid.known
+        → FilesFirst s t 12 mid.filed.lists new.filed.lists → new.known ≡ mid.known
         → ((p : ℕ) → slice_index_or new.adds_win p false ≡ has_rule is_add_wins s p) → IsIndexOf s new
     index_taken new ready place at empty entries places files known rules = record {
       history = subst IsHistory (sym entries) next;
@@ -139,3 +139,8 @@ module _ (s : Specification) (fit : IsFit s) (t : Tx) where
           | inl e ↦ adds_known mid ready f (subst (λ (x : Tx). adds_fact s f x ≡ true) (sym e) h)
           | inr none ↦ absurd (member_none u none)
         ]
+
+-- a history that is not empty has a member
+pub some_member : (h : List Tx) → 0 < length h → (t : Tx) × IsMember h t
+some_member [] some = absurd (omega arith)
+some_member (t ∷ ts) some = (t, member_first t ts)

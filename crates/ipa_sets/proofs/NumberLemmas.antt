@@ -2,6 +2,7 @@
 use Rattle.std.proofs.Common.{◌≡◌, ℕ, ◌-◌, ◌<◌, ◌≤◌, List, [], ◌∷◌, ◌++◌, length, Some, None, slice_get, get_or, sym, ◌∙◌, subst, arith, inl, inr}
 use Rattle.std.specs.List.Sorted.{IsNonDecreasing}
 use Rattle.std.proofs.lemmas.Option.{slice_get_within, get_or_from_slice_get, slice_get-get_or}
+use Rattle.std.proofs.lemmas.List.{get_or_default}
 use Rattle.std.proofs.lemmas.Bool.{cases_lt}
 use Rattle.ipa_history.specs.Histories.{IsMember}
 use Rattle.ipa_history.specs.MemberLaws.{member-append_left, member-append_right, member-append_cases, member_first, member_cases, member_none}
@@ -79,3 +80,16 @@ with_itself xs n m = record { kept = λ k h. h; added = m; only = λ k h. inl h 
 -- the last is not above one that none is above
 pub end_low : (xs : List ℕ) (n d : ℕ) → AreUpTo xs n → 0 < length xs → get_or xs (length xs - 1) d ≤ n
 end_low xs n d up some = up.low (get_or xs (length xs - 1) d) (member_at xs (length xs - 1) d (omega arith))
+
+-- the last is the greatest, where it is not above the bound
+pub last_greatest : (bound : ℕ) (xs : List ℕ) (last : ℕ) → IsNonDecreasing xs → slice_get xs (length xs - 1) ≡ Some last →
+    last ≤ bound → Some last ≡ greatest_upto bound xs
+last_greatest bound xs last sorted at low =
+    let some = slice_get_within xs (length xs - 1) last at in
+    let here : get_or xs (length xs - 1) 0 ≡ last = get_or_from_slice_get xs (length xs - 1) last 0 at in
+    sym at ∙ last_passed bound xs (length xs) (omega (arith, some)) (omega arith) sorted
+    (λ k d l.
+        let k_is : get_or xs k d ≡ get_or xs k 0 = get_or_default xs k d 0 l in
+        let most = sorted k (length xs - 1) 0 (omega arith) (omega (arith, some)) in
+        omega (arith, k_is, most, here, low))
+    (λ k d a l. absurd (omega (arith, a, l)))

@@ -22,7 +22,7 @@ use Rattle.ipa_sets.specs.declared.keys.Key.{Key}
 
 -- the numbers of the transactions of the origin that are filed under the key
 abbrev pub filed : Index → Key → ℕ → List ℕ
-filed index k origin = filed_in index.filed k origin
+filed index k origin = filed_in index.filed.lists k origin
 
 -- the member of this origin and number is at the place
 pub record IsAt (h : List Tx) (origin number place : ℕ) : Type 0 where
@@ -64,13 +64,13 @@ pub record IsIndexOf (s : Specification) (index : Index) : Type 0 where
 pub record IsReadyFor (s : Specification) (t : Tx) (index : Index) : Type 0 where
   pub wide : length index.entries < vec_capacity index.room
   pub place : is_ready_at index.places t.dot.origin ≡ true
-  pub effects : AreReadied s t index.filed index.known 12
+  pub effects : AreReadied s t index.filed.lists index.known 12
 
 -- nothing has changed but rooms, and the facts that are known may be more
 pub record IsWidened (old new : Index) : Type 0 where
   pub entries : new.entries ≡ old.entries
   pub empty : new.room.items ≡ old.room.items
   pub places : (o : ℕ) → numbers_at new.places o ≡ numbers_at old.places o
-  pub filed_so : IsRoomier old.filed new.filed
+  pub filed_so : IsRoomier old.filed.lists new.filed.lists
   pub known : (f : Fact) → has old.known f ≡ true → has new.known f ≡ true
   pub rules : new.adds_win ≡ old.adds_win

@@ -12,6 +12,7 @@ pub mod WholeCutLaws
 pub mod AtCuts
 pub mod ByOrigins
 pub mod Filings
+pub mod FilingLaws
 pub mod Indexes
 pub mod IndexLaws
 pub mod LastAtLaws

@@ -3,9 +3,9 @@ ghost use Rattle.std.specs.Prelude.{◌≡◌, ◌<◌, ℕ, [], ◌∷◌, ◌+
 ghost use Rattle.ipa_clock.specs.Cut.{count_of};
 ghost use Rattle.ipa_history.specs.Histories.{IsMember};
 ghost use Rattle.ipa_sets.specs.ByOrigins.{numbers_at, is_ready_at};
-ghost use Rattle.ipa_sets.specs.Numbers.{greatest_upto, AreUpTo, IsWith};
+ghost use Rattle.ipa_sets.specs.Numbers.{greater, greatest_upto, AreUpTo, IsWith};
 
-use crate::numbers::Numbers;
+use crate::numbers::{Numbers, greater};
 use ipa_clock::Cut;
 use std::alloc::{AllocError, Global};
 
@@ -60,16 +60,14 @@ impl ByOrigin {
         self.lists[usize::from(origin)].len()
     }
 
-    /// For each origin the greatest number within the cut.
-    pub fn up_to(&self, cut: &Cut) -> [Option<u32>; 16]
-        ensures { (o : ℕ) → o < 16 → slice_index_or result o None
-            ≡ greatest_upto (count_of cut.now o) (numbers_at self.now o) }
+    /// Makes each of the numbers that are found the greater one, of it and of the greatest of its origin within the cut.
+    pub fn raise(&self, cut: &Cut, found: &mut [Option<u32>; 16])
+        ensures { (o : ℕ) → o < 16 → slice_index_or found.new o None
+            ≡ greater (slice_index_or found.old o None) (greatest_upto (count_of cut.now o) (numbers_at self.now o)) }
     {
-        let mut found = [None; 16];
         for origin in 0..16usize {
-            found[origin] = self.lists[origin].up_to(cut.counts[origin]);
+            found[origin] = greater(found[origin], self.lists[origin].up_to(cut.counts[origin]));
         }
-        found
     }
 
     /// Takes room for one more of an origin. The numbers stay, also where memory is wanting.

@@ -1,86 +1,151 @@
 //! Numbers filed under keys, for each origin.
-ghost use Rattle.std.specs.Prelude.{◌≡◌, ◌<◌, ℕ, true, None, slice_index_or, OnOk, IsSome};
+ghost use Rattle.std.specs.Prelude.{◌≡◌, ◌<◌, ℕ, true, false, None, slice_index_or, IfOk, OnOk, IsSome};
 ghost use Rattle.std.specs.BTreeMap.{get};
 ghost use Rattle.ipa_clock.specs.Cut.{count_of};
-ghost use Rattle.ipa_sets.specs.Filings.{filed_in, is_room_in, HasRoomFor, IsRoomier, IsFiledAt};
+ghost use Rattle.ipa_sets.specs.FilingLaws.{AreMet-prop};
+ghost use Rattle.ipa_sets.specs.Filings.{AreMet, IsWithKey, filed_in, is_room_in, HasRoomFor, IsRoomier, IsFiledAt};
 ghost use Rattle.ipa_sets.specs.Keys.{key_cmp};
-ghost use Rattle.ipa_sets.specs.Numbers.{greatest_upto, AreUpTo};
+ghost use Rattle.ipa_sets.specs.Numbers.{greater, greatest_upto, AreUpTo};
+ghost use Rattle.ipa_sets.specs.Shapes.{has_shape};
 ghost use Rattle.ipa_sets.specs.declared.keys.Key.{Key as TheKey};
+ghost use Rattle.ipa_sets.specs.declared.patterns.Pattern.{Pattern as ThePattern};
 
 use crate::by_origin::ByOrigin;
 use crate::keys::Key;
+use crate::shapes::Shapes;
 use ipa_clock::Cut;
 use std::alloc::{AllocError, Global};
 use std::collections::BTreeMap;
 
-// For each origin the greatest number within the cut that is filed under the key.
-pub(crate) fn filed_up_to(
-    filed: &BTreeMap<Key, ByOrigin>,
-    key: &Key,
-    cut: &Cut,
-) -> [Option<u32>; 16]
-    ensures { (o : ℕ) → o < 16 → slice_index_or result o None
-        ≡ greatest_upto (count_of cut.now o) (filed_in filed.now key.now o) }
-{
-    match filed.get(key) {
-        Some(lists) => lists.up_to(cut),
-        None => [None; 16],
+/// Numbers filed under keys, for each origin.
+#[derive(Drop)]
+pub struct Filed {
+    lists: BTreeMap<Key, ByOrigin>,
+    // The shapes of the removes that are known, so that most keys need not be looked up.
+    removes: Shapes,
+    ghost met: { AreMet lists removes } by { AreMet-prop lists removes },
+}
+
+impl Filed {
+    /// No numbers, and no key is known.
+    pub fn new(alloc: Global) -> Filed
+        ensures { (k : TheKey) → get key_cmp result.lists k ≡ None }
+    {
+        Filed {
+            lists: BTreeMap::new(alloc),
+            removes: Shapes::new(),
+        }
+    }
+
+    /// Makes each number the greater one, of it and of the greatest of its origin within the cut that is filed under the
+    /// key.
+    pub fn raise(&self, key: &Key, cut: &Cut, found: &mut [Option<u32>; 16])
+        ensures { (o : ℕ) → o < 16 → slice_index_or found.new o None
+            ≡ greater (slice_index_or found.old o None) (greatest_upto (count_of cut.now o) (filed_in self.now.lists key.now o)) }
+    {
+        if key.adds || self.removes.has(&key.pattern) {
+            if let Some(lists) = self.lists.get(key) {
+                lists.raise(cut, found);
+            }
+        }
+    }
+
+    /// Takes room for one more number of the origin under a key. No number is filed, also where memory is wanting.
+    pub fn make_room(&mut self, alloc: Global, key: Key, origin: u8) -> Result<(), AllocError>
+        requires { origin < 16 }
+        ensures roomier { IsRoomier self.old.lists self.new.lists }
+        ensures room { OnOk result (is_room_in self.new.lists key origin ≡ true) }
+    {
+        meet(&mut self.removes, &key);
+        make_room(&mut self.lists, alloc, key, origin)
+    }
+
+    /// Files a number of the origin under a key that has room for it, unless it is filed there.
+    pub fn file(&mut self, key: &Key, origin: u8, number: u32)
+        requires origin { origin < 16 }
+        requires rising { AreUpTo (filed_in self.old.lists key.now origin) number }
+        requires room { HasRoomFor self.old.lists key.now origin number }
+        ensures { IsFiledAt key.now origin number self.old.lists self.new.lists }
+    {
+        file(&mut self.lists, key, origin, number);
     }
 }
 
-// Makes the key known. No number is filed.
-fn know(filed: &mut BTreeMap<Key, ByOrigin>, alloc: Global, key: Key) -> Result<(), AllocError>
-    ensures same { (k : TheKey) (o : ℕ) → filed_in filed.new k o ≡ filed_in filed.old k o }
-    ensures stay { (k : TheKey) (o : ℕ) → is_room_in filed.old k o ≡ true → is_room_in filed.new k o ≡ true }
-    ensures known { OnOk result (IsSome (get key_cmp filed.new key)) }
+// Adds the shape of the key, if it is that of a remove.
+fn meet(removes: &mut Shapes, key: &Key)
+    ensures here { key.now.adds ≡ false → has_shape removes.new key.now.pattern ≡ true }
+    ensures kept { (p : ThePattern) → has_shape removes.old p ≡ true → has_shape removes.new p ≡ true }
 {
-    if !filed.contains_key(&key) {
-        filed.insert(key, ByOrigin::new(alloc))?;
+    if !key.adds {
+        removes.add(&key.pattern);
     }
+}
+
+// Takes room for one more number of the origin under the key, if it is known, and answers whether it is. No number is
+// filed.
+fn widen(lists: &mut BTreeMap<Key, ByOrigin>, key: &Key, origin: u8) -> Result<bool, AllocError>
+    requires { origin < 16 }
+    ensures roomier { IsRoomier lists.old lists.new }
+    ensures room { IfOk result (λ known. known ≡ true → is_room_in lists.new key.now origin ≡ true) }
+    ensures absent { IfOk result (λ known. known ≡ false → get key_cmp lists.new key.now ≡ None) }
+    ensures keys { IsWithKey lists.old lists.new key.now }
+{
+    match lists.get_mut(key) {
+        Some(numbers) => {
+            numbers.reserve(origin)?;
+            Ok(true)
+        }
+        None => Ok(false),
+    }
+}
+
+// Makes a key known, with room for one number of the origin. No number is filed.
+fn know(
+    lists: &mut BTreeMap<Key, ByOrigin>,
+    alloc: Global,
+    key: Key,
+    origin: u8,
+) -> Result<(), AllocError>
+    requires origin { origin < 16 }
+    requires absent { get key_cmp lists.old key ≡ None }
+    ensures roomier { IsRoomier lists.old lists.new }
+    ensures room { OnOk result (is_room_in lists.new key origin ≡ true) }
+    ensures keys { IsWithKey lists.old lists.new key }
+{
+    let mut numbers = ByOrigin::new(alloc);
+    numbers.reserve(origin)?;
+    lists.insert(key, numbers)?;
     Ok(())
 }
 
-// Takes room for one more number of the origin under a key that is known. No number is filed.
-fn widen(filed: &mut BTreeMap<Key, ByOrigin>, key: &Key, origin: u8) -> Result<(), AllocError>
-    requires origin { origin < 16 }
-    requires known { IsSome (get key_cmp filed.old key.now) }
-    ensures same { (k : TheKey) (o : ℕ) → filed_in filed.new k o ≡ filed_in filed.old k o }
-    ensures stay { (k : TheKey) (o : ℕ) → is_room_in filed.old k o ≡ true → is_room_in filed.new k o ≡ true }
-    ensures room { OnOk result (is_room_in filed.new key.now origin ≡ true) }
-{
-    match filed.get_mut(key) {
-        Some(lists) => {
-            lists.reserve(origin)?;
-            Ok(())
-        }
-        None => Ok(()),
-    }
-}
-
 // Takes room for one more number of the origin under a key. No number is filed, also where memory is wanting.
-pub(crate) fn make_room(
-    filed: &mut BTreeMap<Key, ByOrigin>,
+fn make_room(
+    lists: &mut BTreeMap<Key, ByOrigin>,
     alloc: Global,
     key: Key,
     origin: u8,
 ) -> Result<(), AllocError>
     requires { origin < 16 }
-    ensures roomier { IsRoomier filed.old filed.new }
-    ensures room { OnOk result (is_room_in filed.new key origin ≡ true) }
+    ensures roomier { IsRoomier lists.old lists.new }
+    ensures room { OnOk result (is_room_in lists.new key origin ≡ true) }
+    ensures keys { IsWithKey lists.old lists.new key }
 {
-    know(filed, alloc, key)?;
-    widen(filed, &key, origin)?;
+    if widen(lists, &key, origin)? {
+        return Ok(());
+    }
+    know(lists, alloc, key, origin)?;
     Ok(())
 }
 
 // Files a number of the origin under a key that has room for it, unless it is filed there.
-pub(crate) fn file(filed: &mut BTreeMap<Key, ByOrigin>, key: &Key, origin: u8, number: u32)
+fn file(lists: &mut BTreeMap<Key, ByOrigin>, key: &Key, origin: u8, number: u32)
     requires origin { origin < 16 }
-    requires rising { AreUpTo (filed_in filed.old key.now origin) number }
-    requires room { HasRoomFor filed.old key.now origin number }
-    ensures { IsFiledAt key.now origin number filed.old filed.new }
+    requires rising { AreUpTo (filed_in lists.old key.now origin) number }
+    requires room { HasRoomFor lists.old key.now origin number }
+    ensures filed { IsFiledAt key.now origin number lists.old lists.new }
+    ensures keys { (k : TheKey) → IsSome (get key_cmp lists.new k) → IsSome (get key_cmp lists.old k) }
 {
-    if let Some(lists) = filed.get_mut(key) {
-        let _ = lists.append(origin, number);
+    if let Some(numbers) = lists.get_mut(key) {
+        let _ = numbers.append(origin, number);
     }
 }

@@ -5,9 +5,8 @@ ghost use Rattle.ipa_clock.specs.Cut.{count_of};
 ghost use Rattle.ipa_sets.specs.AtCuts.{touched, is_number, found_last, last_by, lasts};
 ghost use Rattle.ipa_sets.specs.Indexes.{filed};
 ghost use Rattle.ipa_sets.specs.Keys.{add_key};
-ghost use Rattle.ipa_sets.specs.Numbers.{greater, greatest_upto};
+ghost use Rattle.ipa_sets.specs.Numbers.{greatest_upto};
 
-use crate::filings::filed_up_to;
 use crate::index::Index;
 use crate::keys::{add_key, remove_keys};
 use crate::lasts::Last;
@@ -27,7 +26,7 @@ impl Index {
     pub(crate) fn lasts(&self, cut: &Cut, fact: &Fact) -> [Option<Last>; 16]
         ensures { result ≡ lasts self.now cut.now fact.now }
     {
-        let added = filed_up_to(&self.filed, &add_key(fact), cut);
+        let added = self.added_up_to(cut, fact);
         let touched = self.touched_up_to(cut, fact, &added);
         let mut lasts = [None; 16];
         for origin in 0..16u8 {
@@ -35,6 +34,16 @@ impl Index {
             lasts[place] = self.last_by(origin, touched[place], added[place]);
         }
         lasts
+    }
+
+    // The greatest number of each origin within the cut of the transactions that add the fact.
+    fn added_up_to(&self, cut: &Cut, fact: &Fact) -> [Option<u32>; 16]
+        ensures { (o : ℕ) → o < 16 → slice_index_or result o None
+            ≡ greatest_upto (count_of cut.now o) (filed self.now (add_key fact.now) o) }
+    {
+        let mut added = [None; 16];
+        self.filed.raise(&add_key(fact), cut, &mut added);
+        added
     }
 
     // The greatest number of each origin within the cut of the transactions that touch the fact, from those that add it.
@@ -47,7 +56,7 @@ impl Index {
         let mut touched = *added;
         let keys = remove_keys(fact);
         for key in &keys {
-            touched = greater_of(&touched, &filed_up_to(&self.filed, key, cut));
+            self.filed.raise(key, cut, &mut touched);
         }
         touched
     }
@@ -81,27 +90,4 @@ fn is_number(given: Option<u32>, number: u32) -> bool
         Some(given) => given == number,
         None => false,
     }
-}
-
-// The greater of two numbers, where each may be missing.
-fn greater(one: Option<u32>, other: Option<u32>) -> Option<u32>
-    ensures { result ≡ greater one other }
-{
-    match (one, other) {
-        (None, _) => other,
-        (Some(_), None) => one,
-        (Some(n), Some(m)) => Some(if n < m { m } else { n }),
-    }
-}
-
-// The greater number of each origin.
-fn greater_of(one: &[Option<u32>; 16], other: &[Option<u32>; 16]) -> [Option<u32>; 16]
-    ensures { (o : ℕ) → o < 16 → slice_index_or result o None
-        ≡ greater (slice_index_or one.now o None) (slice_index_or other.now o None) }
-{
-    let mut both = [None; 16];
-    for origin in 0..16usize {
-        both[origin] = greater(one[origin], other[origin]);
-    }
-    both
 }

@@ -1,10 +1,11 @@
 //! All of a history, to be asked at any cut.
-ghost use Rattle.std.specs.Prelude.{◌≡◌, ◌<◌, ℕ, true, [], ◌∷◌, ◌++◌, OnOk, OnErr, MatchOption};
+ghost use Rattle.std.specs.Prelude.{◌≡◌, ◌<◌, ℕ, true, [], ◌∷◌, ◌++◌, OnOk, OnErr, MatchOption, false, slice_index_or};
 ghost use Rattle.std.specs.Option.{option_copied};
 ghost use Rattle.ipa_clock.specs.Cut.{count_of};
 ghost use Rattle.ipa_spec.specs.declared.specification.Specification.{Specification};
 ghost use Rattle.ipa_history.specs.Histories.{IsHistory, IsNamedIn, NoneNamedIn, number_of};
 ghost use Rattle.ipa_logic.specs.Facts.{has, IsStateOf};
+ghost use Rattle.ipa_logic.specs.Touches.{has_rule, is_add_wins};
 ghost use Rattle.ipa_logic.specs.declared.facts.Fact.{Fact as TheFact};
 ghost use Rattle.ipa_history.specs.Values.{value_at};
 ghost use Rattle.ipa_history.specs.Ages.{age_at};
@@ -13,8 +14,8 @@ ghost use Rattle.ipa_sets.specs.Indexes.{IsIndexOf, IsReadyFor, IsWidened};
 
 use crate::at_cut::AtCut;
 use crate::by_origin::ByOrigin;
+use crate::filings::Filed;
 use crate::facts::{adds_win, stands_in_order};
-use crate::keys::Key;
 use crate::taking::{file_effects, ready_effects};
 use ipa_clock::{Cut, Dot};
 use ipa_history::{History, Tx};
@@ -22,7 +23,6 @@ use ipa_logic::State;
 use ipa_spec::Spec;
 use ipa_spec::laws::spec_is_fit;
 use std::alloc::{AllocError, Global};
-use std::collections::BTreeMap;
 
 /// All of a history, to be asked at any cut. It keeps the transactions themselves, and beside them what each
 /// does, so that the last effects on a fact within a cut are found by binary search.
@@ -33,7 +33,7 @@ pub struct Index {
     // For each origin the places of its transactions.
     pub(crate) places: ByOrigin,
     // For each key of an effect, and each origin, the numbers of the transactions that have it.
-    pub(crate) filed: BTreeMap<Key, ByOrigin>,
+    pub(crate) filed: Filed,
     // The facts that some transaction adds, and maybe others.
     pub(crate) known: State,
     // For each predicate whether an add prevails over a concurrent remove, once a transaction was taken.
@@ -53,7 +53,7 @@ impl Index {
         Index {
             entries: History::new(alloc),
             places: ByOrigin::new(alloc),
-            filed: BTreeMap::new(alloc),
+            filed: Filed::new(alloc),
             known: State::new(alloc),
             adds_win: [false; 256],
             room: Vec::new(alloc),
@@ -153,11 +153,24 @@ impl Index {
         ensures indexed { IsIndexOf spec.now self.new }
     {
         spec_is_fit(spec);
+        let rules = self.rules(spec);
         let place = self.entries.len();
         self.entries.push_within(*tx, &mut self.room);
         let _ = self.places.push(tx.dot.origin, place);
         file_effects(spec, &mut self.filed, tx);
-        self.adds_win = adds_win(spec);
+        self.adds_win = rules;
+    }
+
+    // For each predicate whether an add prevails over a concurrent remove: as kept, once a transaction was taken.
+    fn rules(&self, spec: &Spec) -> [bool; 256]
+        requires { IsIndexOf spec.now self.now }
+        ensures { (p : ℕ) → slice_index_or result p false ≡ has_rule is_add_wins spec.now p }
+    {
+        if self.entries.len() == 0 {
+            adds_win(spec)
+        } else {
+            self.adds_win
+        }
     }
 
     // Takes room for the transaction. Nothing is filed.

@@ -1,7 +1,7 @@
 //! Numbers in order, and the greatest of them up to a bound.
 ghost use Rattle.std.specs.Prelude.{◌≡◌, ◌↔◌, [], ◌∷◌, ◌++◌, true, slice_get, length, IsOk, IsTrue, OnOk, OnErr};
 ghost use Rattle.ipa_history.specs.Histories.{IsMember};
-ghost use Rattle.ipa_sets.specs.Numbers.{greatest_upto, AreUpTo, IsWith};
+ghost use Rattle.ipa_sets.specs.Numbers.{greater, greatest_upto, AreUpTo, IsWith};
 
 use std::alloc::{AllocError, Global};
 use std::marker::Model;
@@ -49,8 +49,24 @@ impl Numbers {
         self.items.len()
     }
 
-    /// The greatest number that is not above the bound, by binary search.
+    /// The greatest number that is not above the bound: the last, or one found by binary search.
     pub fn up_to(&self, bound: u32) -> Option<u32>
+        ensures { result ≡ greatest_upto bound self.now.items }
+    {
+        match self.items.last() {
+            Some(last) => {
+                if *last <= bound {
+                    Some(*last)
+                } else {
+                    self.search_up_to(bound)
+                }
+            }
+            None => None,
+        }
+    }
+
+    // The same, by binary search.
+    fn search_up_to(&self, bound: u32) -> Option<u32>
         ensures { result ≡ greatest_upto bound self.now.items }
     {
         let passed = self.items.as_slice().partition_point(|n| *n <= bound);
@@ -107,5 +123,16 @@ impl Numbers {
             Some(last) => *last == number,
             None => false,
         }
+    }
+}
+
+/// The greater of two numbers, where each may be missing.
+pub(crate) fn greater(one: Option<u32>, other: Option<u32>) -> Option<u32>
+    ensures { result ≡ greater one other }
+{
+    match (one, other) {
+        (None, _) => other,
+        (Some(_), None) => one,
+        (Some(n), Some(m)) => Some(if n < m { m } else { n }),
     }
 }

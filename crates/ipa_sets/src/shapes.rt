@@ -49,12 +49,12 @@ fn shape_of(pattern: &Pattern) -> usize
 }
 
 // The weight of a place with any element, and 0 of one that has an element.
-fn weight(weight: usize, place: Option<u16>) -> usize
-    ensures value { result ≡ weight weight place }
-    ensures low { result ≤ weight }
+fn weight(most: usize, place: Option<u16>) -> usize
+    ensures value { result ≡ weight most place }
+    ensures low { result ≤ most }
 {
     match place {
         Some(_) => 0,
-        None => weight,
+        None => most,
     }
 }

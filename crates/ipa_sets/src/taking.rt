@@ -4,31 +4,29 @@ ghost use Rattle.ipa_logic.specs.Facts.{has};
 ghost use Rattle.ipa_logic.specs.declared.facts.Fact.{Fact as TheFact};
 ghost use Rattle.ipa_sets.specs.Filings.{AreFiledUpTo, HasRooms, IsRoomier, IsReadied, IsReadiedAt, AreReadied, FilesAt, FilesFirst};
 
-use crate::by_origin::ByOrigin;
-use crate::filings::{file, make_room};
-use crate::keys::{Key, key_of};
+use crate::filings::Filed;
+use crate::keys::key_of;
 use ipa_history::Tx;
 use ipa_logic::{State, effect_at, fact_given};
 use ipa_spec::laws::spec_is_fit;
 use ipa_spec::{Effect, Spec};
 use std::alloc::{AllocError, Global};
-use std::collections::BTreeMap;
 
 // Takes room for the transaction under the key of one of its effects, and makes the fact known that it adds.
 fn ready_effect(
     spec: &Spec,
-    filed: &mut BTreeMap<Key, ByOrigin>,
+    filed: &mut Filed,
     known: &mut State,
     alloc: Global,
     tx: &Tx,
     effect: &Effect,
 ) -> Result<(), AllocError>
     requires { tx.now.dot.origin < 16 }
-    ensures ready { OnOk result (IsReadied spec.now tx.now filed.new known.new effect.now) }
-    ensures roomier { IsRoomier filed.old filed.new }
+    ensures ready { OnOk result (IsReadied spec.now tx.now filed.new.lists known.new effect.now) }
+    ensures roomier { IsRoomier filed.old.lists filed.new.lists }
     ensures kept { (f : TheFact) → has known.old f ≡ true → has known.new f ≡ true }
 {
-    make_room(filed, alloc, key_of(spec, &tx.args, effect), tx.dot.origin)?;
+    filed.make_room(alloc, key_of(spec, &tx.args, effect), tx.dot.origin)?;
     if effect.add {
         known.insert(fact_given(spec, effect, &tx.args))?;
     }
@@ -38,15 +36,15 @@ fn ready_effect(
 // The same for the effect at a place, if there is one.
 fn ready_effect_at(
     spec: &Spec,
-    filed: &mut BTreeMap<Key, ByOrigin>,
+    filed: &mut Filed,
     known: &mut State,
     alloc: Global,
     tx: &Tx,
     place: usize,
 ) -> Result<(), AllocError>
     requires { tx.now.dot.origin < 16 }
-    ensures ready { OnOk result (IsReadiedAt spec.now tx.now filed.new known.new place) }
-    ensures roomier { IsRoomier filed.old filed.new }
+    ensures ready { OnOk result (IsReadiedAt spec.now tx.now filed.new.lists known.new place) }
+    ensures roomier { IsRoomier filed.old.lists filed.new.lists }
     ensures kept { (f : TheFact) → has known.old f ≡ true → has known.new f ≡ true }
 {
     match effect_at(spec, tx.action, place) {
@@ -61,14 +59,14 @@ fn ready_effect_at(
 // Takes room for the transaction under the keys of all its effects, and makes the facts known that they add.
 pub(crate) fn ready_effects(
     spec: &Spec,
-    filed: &mut BTreeMap<Key, ByOrigin>,
+    filed: &mut Filed,
     known: &mut State,
     alloc: Global,
     tx: &Tx,
 ) -> Result<(), AllocError>
     requires { tx.now.dot.origin < 16 }
-    ensures ready { OnOk result (AreReadied spec.now tx.now filed.new known.new 12) }
-    ensures roomier { IsRoomier filed.old filed.new }
+    ensures ready { OnOk result (AreReadied spec.now tx.now filed.new.lists known.new 12) }
+    ensures roomier { IsRoomier filed.old.lists filed.new.lists }
     ensures kept { (f : TheFact) → has known.old f ≡ true → has known.new f ≡ true }
 {
     spec_is_fit(spec);
@@ -79,24 +77,24 @@ pub(crate) fn ready_effects(
 }
 
 // Files the transaction under the key of its effect at a place, if there is one. It takes no memory.
-fn file_effect_at(spec: &Spec, filed: &mut BTreeMap<Key, ByOrigin>, tx: &Tx, place: usize)
+fn file_effect_at(spec: &Spec, filed: &mut Filed, tx: &Tx, place: usize)
     requires origin { tx.now.dot.origin < 16 }
-    requires rising { AreFiledUpTo filed.old tx.now.dot.origin tx.now.dot.number }
-    requires rooms { HasRooms spec.now tx.now filed.old }
-    ensures { FilesAt spec.now tx.now place filed.old filed.new }
+    requires rising { AreFiledUpTo filed.old.lists tx.now.dot.origin tx.now.dot.number }
+    requires rooms { HasRooms spec.now tx.now filed.old.lists }
+    ensures { FilesAt spec.now tx.now place filed.old.lists filed.new.lists }
 {
     if let Some(effect) = effect_at(spec, tx.action, place) {
         let key = key_of(spec, &tx.args, &effect);
-        file(filed, &key, tx.dot.origin, tx.dot.number);
+        filed.file(&key, tx.dot.origin, tx.dot.number);
     }
 }
 
 // Files the transaction under the keys of all its effects. It takes no memory.
-pub(crate) fn file_effects(spec: &Spec, filed: &mut BTreeMap<Key, ByOrigin>, tx: &Tx)
+pub(crate) fn file_effects(spec: &Spec, filed: &mut Filed, tx: &Tx)
     requires origin { tx.now.dot.origin < 16 }
-    requires rising { AreFiledUpTo filed.old tx.now.dot.origin tx.now.dot.number }
-    requires rooms { HasRooms spec.now tx.now filed.old }
-    ensures { FilesFirst spec.now tx.now 12 filed.old filed.new }
+    requires rising { AreFiledUpTo filed.old.lists tx.now.dot.origin tx.now.dot.number }
+    requires rooms { HasRooms spec.now tx.now filed.old.lists }
+    ensures { FilesFirst spec.now tx.now 12 filed.old.lists filed.new.lists }
 {
     spec_is_fit(spec);
     for place in 0..12usize {

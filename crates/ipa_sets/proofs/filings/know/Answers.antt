@@ -1,17 +1,13 @@
-use Rattle.std.proofs.Common.{rules, sym, ◌∙◌, ◌≡◌, None}
-use Rattle.std.specs.BTreeMap.{get}
-use Rattle.ipa_sets.specs.Keys.{key_cmp}
-use Rattle.ipa_sets.proofs.FilingLemmas.{put_same, put_stay, none_filed, no_room}
+use Rattle.std.proofs.Common.{sym, ◌∙◌}
+use Rattle.ipa_sets.proofs.FilingLemmas.{put_key, put_roomier, none_filed, no_room}
 use Rattle.ipa_sets.proofs.filings.know.Goals as goal
 
-pub returns-in_ok-insert-clause-same : goal.returns-in_ok-insert-clause-same
-returns-in_ok-insert-clause-same c =
-    let absent : get key_cmp c.args.filed.now c.args.key ≡ None = search rules in
-    put_same c.args.filed.now c.insert.new.self c.args.key c.new.result c.in_ok-insert.ensures.updates.0
-    (λ o. c.new.ensures o ∙ sym (none_filed c.args.filed.now c.args.key o absent))
+pub returns-clause-roomier : goal.returns-clause-roomier
+returns-clause-roomier c = put_roomier c.args.lists.now c.insert.new.self c.args.key c.reserve.new.self
+    c.in_ok-insert.ensures.updates.0
+    (λ o. c.reserve.ensures.same o ∙ (c.new-numbers.ensures o ∙ sym (none_filed c.args.lists.now c.args.key o c.requires.absent)))
+    (λ o h. absurd (no_room c.args.lists.now c.args.key o c.requires.absent h))
 
-pub returns-in_ok-insert-clause-stay : goal.returns-in_ok-insert-clause-stay
-returns-in_ok-insert-clause-stay c =
-    let absent : get key_cmp c.args.filed.now c.args.key ≡ None = search rules in
-    put_stay c.args.filed.now c.insert.new.self c.args.key c.new.result c.in_ok-insert.ensures.updates.0
-    (λ o h. absurd (no_room c.args.filed.now c.args.key o absent h))
+pub returns-clause-keys : goal.returns-clause-keys
+returns-clause-keys c = put_key c.args.lists.now c.insert.new.self c.args.key c.reserve.new.self
+    c.in_ok-insert.ensures.updates.0

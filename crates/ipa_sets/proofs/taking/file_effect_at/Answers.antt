@@ -8,12 +8,12 @@ use Rattle.ipa_sets.proofs.taking.file_effect_at.Goals as goal
 pub file-requires-clause-room : goal.file-requires-clause-room
 file-requires-clause-room c =
     let at : slice_get (effects_of c.args.spec.now c.args.tx.now.action) c.args.place ≡ Some c.in-Some.effect = search rules in
-    subst (λ (k : Key). HasRoomFor c.args.filed.now k c.args.tx.now.dot.origin c.args.tx.now.dot.number) (sym c.key_of-key.ensures)
+    subst (λ (k : Key). HasRoomFor c.args.filed.now.lists k c.args.tx.now.dot.origin c.args.tx.now.dot.number) (sym c.key_of-key.ensures)
     (c.requires.rooms.each c.args.place c.in-Some.effect at)
 
 pub returns-in-Some : goal.returns-in-Some
 returns-in-Some c =
     let at : slice_get (effects_of c.args.spec.now c.args.tx.now.action) c.args.place ≡ Some c.in-Some.effect = search rules in
-    files_at c.args.spec.now c.args.tx.now c.args.filed.now c.file.new.filed c.args.place c.in-Some.effect at
-    (subst (λ (k : Key). IsFiledAt k c.args.tx.now.dot.origin c.args.tx.now.dot.number c.args.filed.now c.file.new.filed)
+    files_at c.args.spec.now c.args.tx.now c.args.filed.now.lists c.file.new.self.lists c.args.place c.in-Some.effect at
+    (subst (λ (k : Key). IsFiledAt k c.args.tx.now.dot.origin c.args.tx.now.dot.number c.args.filed.now.lists c.file.new.self.lists)
     c.key_of-key.ensures c.file.ensures)

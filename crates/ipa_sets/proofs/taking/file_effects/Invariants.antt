@@ -3,6 +3,6 @@ use Rattle.ipa_sets.proofs.taking.file_effects.Given as goal
 
 abbrev pub invariant-loop-place : goal.invariant-loop-place
 invariant-loop-place l = record {
-  files : FilesFirst l.spec l.tx l.place l.initial.filed l.filed;
-  rooms : HasRooms l.spec l.tx l.filed;
+  files : FilesFirst l.spec l.tx l.place l.initial.filed.lists l.filed.lists;
+  rooms : HasRooms l.spec l.tx l.filed.lists;
 }

@@ -32,4 +32,4 @@ returns-clause-indexed c =
     index_taken c.args.spec.now c.spec_is_fit.ensures.fit c.args.tx.now c.args.self.now c.requires.indexed c.requires.next _ ready
     c.len-place.result c.len-place.ensures c.push_within.ensures.room c.push_within.ensures.history
     (from_ok c.push.result (c.push.ensures.ready ready.place) c.push.ensures.ok)
-    c.file_effects.ensures refl c.adds_win-self.ensures
+    c.file_effects.ensures refl c.rules-rules.ensures

@@ -1,4 +1,4 @@
-use Rattle.std.proofs.Common.{◌∙◌, List, ◌∷◌, ap, arith, false, [], None, get_or}
+use Rattle.std.proofs.Common.{refl, ◌∙◌, List, ◌∷◌, ap, arith, false, [], None, get_or}
 use Rattle.std.proofs.lemmas.List.{take_all}
 use Rattle.ipa_clock.specs.Cut.{count_of}
 use Rattle.ipa_sets.specs.AtCuts.{filed_under}
@@ -18,5 +18,5 @@ loop-key-preserved c o l =
     let test = c.loop-key-test.true in
     touched-step c.args.self.now (count_of c.args.cut.now o) (add_key c.args.fact.now) c.remove_keys-keys.result c.loop-key.key-index
     (record { adds = false; pattern = record { predicate = 0; places = [] } }) o
-    (get_or c.loop-key.touched o None) (get_or c.filed_up_to.result o None) (get_or c.greater_of-touched.result o None)
-    (omega arith) (c.loop-key.invariant o l) (c.filed_up_to.ensures o l) (c.greater_of-touched.ensures o l)
+    (get_or c.loop-key.touched o None) _ (get_or c.raise.new.found o None)
+    (omega arith) (c.loop-key.invariant o l) refl (c.raise.ensures o l)
