@@ -7,12 +7,13 @@ use Rattle.std.specs.declared.cmp.Ordering.TheVariants.{Less, Equal, Greater}
 use Rattle.std.specs.Cmp.Lexicographic.{slice_cmp}
 use Rattle.std.proofs.lemmas.Bool.{cases_lt, both_ways, or_cases, or_left, or_right, and_parts, and_from, eqb-true, eq-eqb, ltb-true, lt-ltb}
 use Rattle.std.proofs.lemmas.Bool.Decides.{nat_tests}
-use Rattle.ipa_logic.specs.Facts.{fact_cmp}
+use Rattle.std.proofs.lemmas.List.{get_or_default}
+use Rattle.ipa_logic.specs.Facts.{fact_cmp, IsRising}
 use Rattle.ipa_logic.specs.declared.facts.Fact.{Fact}
 use Rattle.ipa_sets.specs.Fitting.{fits_at, fits, leads, is_within}
 use Rattle.ipa_sets.specs.Places.{IsSplit}
 use Rattle.ipa_sets.specs.declared.patterns.Pattern.{Pattern}
-use Rattle.ipa_sets.proofs.PlaceLemmas.{predicates-rise}
+use Rattle.ipa_sets.proofs.PlaceLemmas.{parted, predicates-rise}
 
 -- a lesser element leads where a greater one does
 leads-down : (last : Bool) (x : Option ℕ) (a b : ℕ) (r q : Bool) → a ≤ b → (a ≡ b → q ≡ true → r ≡ true) →
@@ -138,7 +139,7 @@ fits-within last p f h =
     (leads-fit last (slice_index_or p.places 2 None) (slice_index f.args 2) last three.1 refl)))
 
 module _ (p : Pattern) (facts : List Fact) (k : ℕ) (d : Fact) (fit : fits p (slice_index_or facts k d) ≡ true) where
-  -- so such a fact stands between the places
+  -- so such a fact does not stand before those that begin as the pattern does
   pub fits-from : (start : ℕ) → IsSplit (is_within false p) facts start → start ≤ k
   fits-from start split = elim (cases_lt k start) [
     | inl less ↦ absurd (both_ways (is_within false p (slice_index_or facts k d))
@@ -146,9 +147,13 @@ module _ (p : Pattern) (facts : List Fact) (k : ℕ) (d : Fact) (fit : fits p (s
     | inr more ↦ more
   ]
 
-  pub fits-to : (end : ℕ) → IsSplit (is_within true p) facts end → k < length facts → k < end
-  fits-to end split within = elim (cases_lt k end) [
+  -- and not past them
+  pub fits-to : (end : ℕ) (e : Fact) → IsRising facts → k < length facts → is_within true p (slice_index_or facts end e) ≡ false →
+      k < end
+  fits-to end e rises within past = elim (cases_lt k end) [
     | inl less ↦ less
-    | inr more ↦ absurd (both_ways (is_within true p (slice_index_or facts k d))
-        (split.after k d more within) (fits-within true p (slice_index_or facts k d) fit))
+    | inr more ↦ absurd (both_ways (is_within true p (slice_index_or facts end e)) past
+        (ap (is_within true p) (get_or_default facts end e d (omega (arith, more, within)))
+        ∙ parted (is_within true p) (within-down true p) facts rises end k d more within
+        (fits-within true p (slice_index_or facts k d) fit)))
   ]

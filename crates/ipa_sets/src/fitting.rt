@@ -1,5 +1,5 @@
 //! Facts that fit a pattern. In a list in order those that begin as it does stand side by side.
-ghost use Rattle.std.specs.Prelude.{◌≡◌, Some};
+ghost use Rattle.std.specs.Prelude.{◌≡◌, Some, false};
 ghost use Rattle.ipa_logic.specs.Facts.{IsRising};
 ghost use Rattle.ipa_sets.specs.Fitting.{fits_at, fits, leads, is_within};
 ghost use Rattle.ipa_sets.specs.Places.{IsSplit};
@@ -27,16 +27,16 @@ fn fits_at(place: Option<u16>, element: u16) -> bool
     }
 }
 
-// How many of the facts come before those that begin as the pattern does, these included if `last`.
-pub(crate) fn place_within(facts: &[Fact], last: bool, pattern: &Pattern) -> usize
+// How many of the facts come before those that begin as the pattern does.
+pub(crate) fn place_before(facts: &[Fact], pattern: &Pattern) -> usize
     requires { IsRising facts.now }
-    ensures { IsSplit (is_within last pattern.now) facts.now result }
+    ensures { IsSplit (is_within false pattern.now) facts.now result }
 {
-    facts.partition_point(|fact| is_within(last, pattern, fact))
+    facts.partition_point(|fact| is_within(false, pattern, fact))
 }
 
 // Whether the fact comes before those that begin as the pattern does, or, if `last`, is one of them.
-fn is_within(last: bool, pattern: &Pattern, fact: &Fact) -> bool
+pub(crate) fn is_within(last: bool, pattern: &Pattern, fact: &Fact) -> bool
     ensures { result ≡ is_within last pattern.now fact.now }
 {
     let third = leads(last, pattern.places[2], fact.args[2], last);

@@ -4,10 +4,10 @@ ghost use Rattle.std.specs.Option.{option_map_or};
 ghost use Rattle.ipa_spec.specs.Actions.{effects_of};
 ghost use Rattle.ipa_logic.specs.Facts.{IsRising};
 ghost use Rattle.ipa_logic.specs.declared.facts.Fact.{Fact as TheFact};
-ghost use Rattle.ipa_sets.specs.Fitting.{fits, concerns, IsTold, TellsAnew};
+ghost use Rattle.ipa_sets.specs.Fitting.{fits, is_within, concerns, IsTold, TellsAnew};
 ghost use Rattle.ipa_sets.specs.Keys.{key_of};
 
-use crate::fitting::{fits, place_within};
+use crate::fitting::{fits, is_within, place_before};
 use crate::keys::key_of;
 use crate::listing::Test;
 use crate::patterns::Pattern;
@@ -61,9 +61,10 @@ fn tell_fitting<T: Test>(test: &T, facts: &[Fact], truths: &mut [bool], pattern:
     requires even { length truths.old ≡ length facts.now }
     ensures { TellsAnew (T.passes test.now) facts.now (fits pattern.now) truths.old truths.new }
 {
-    let start = place_within(facts, false, pattern);
-    let end = place_within(facts, true, pattern);
-    for place in start..end {
+    for place in place_before(facts, pattern)..facts.len() {
+        if !is_within(true, pattern, &facts[place]) {
+            return;
+        }
         tell_at(test, facts, truths, pattern, place);
     }
 }
