@@ -51,7 +51,7 @@ any-at p (x ∷ xs) zero h = or_left (p x) (list_any p xs) h
 any-at p (x ∷ xs) (suc i) h = or_right (p x) (list_any p xs) (any-at p xs i h)
 
 -- nothing passes among none
-any-none : {X : Type 0} (p : X → Bool) (xs : List X) → list_any p (take 0 xs) ≡ true → ⊥
+pub any-none : {X : Type 0} (p : X → Bool) (xs : List X) → list_any p (take 0 xs) ≡ true → ⊥
 any-none p [] h = false≢true h
 any-none p (x ∷ xs) h = false≢true h
 

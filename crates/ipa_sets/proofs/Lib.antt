@@ -1,9 +1,11 @@
 pub mod EffectLemmas
 pub mod FilingLemmas
 pub mod FillLemmas
+pub mod FittingLemmas
 pub mod IndexLemmas
 pub mod ListingLemmas
 pub mod NumberLemmas
 pub mod PlaceLemmas
 pub mod RowLemmas
 pub mod TakingLemmas
+pub mod TruthLemmas

@@ -1,6 +1,6 @@
 -- Rows of a table.
 use Rattle.std.proofs.Common.{◌≡◌, ℕ, ◌+◌, ◌<◌, ◌≤◌, Bool, true, false, ◌&&◌, ◌||◌, cond, List, [], ◌∷◌, ◌++◌, length, take, refl, sym, ◌∙◌, ap, subst, arith, Option, Some, None, inl, inr}
-use Rattle.std.specs.Prelude.{◌==◌, nat_lt, replicate, slice_index_or, slice_set, unwrap_or, is_some, Result, Ok, Err, OnErr}
+use Rattle.std.specs.Prelude.{◌==◌, nat_lt, replicate, slice_index_or, slice_set, unwrap_or, is_some, Result, Ok, Err, OnOk, OnErr}
 use Rattle.std.specs.List.{fold}
 use Rattle.std.specs.Option.{option_map_or}
 use Rattle.std.specs.Ordering.{is_eq}
@@ -144,6 +144,11 @@ pub given-none : (s : Specification) (args : List ℕ) (f : Fact) (e : Effect) (
     e.add ≡ false → old ≡ (option_map_or (gives s args f) x false || old)
 given-none s args f e x old is add = sym (ap (λ (y : Option Effect). option_map_or (gives s args f) y false || old) (sym is)
     ∙ ap (λ (b : Bool). (b && is_eq (fact_cmp (fact_given s args e) f)) || old) add)
+
+-- what holds, holds where there is no error
+pub on-ok : {A B : Type 0} {P : Type 0} (r : Result A B) → P → OnOk r P
+on-ok (Ok a) p = p
+on-ok (Err e) p = tt
 
 -- what holds after an error holds
 pub on-err : {A B : Type 0} {P : Type 0} (r : Result A B) → P → OnErr r P

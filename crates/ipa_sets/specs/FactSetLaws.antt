@@ -1,12 +1,13 @@
 -- A set that stands for a history is the state at its whole cut, with the ages of its true facts.
 --
+--   told-of          the truths that are kept are those by the rows
 --   truth-value      the value that the set gives a fact is that of the history
 --   facts-state      its true facts are the state
 --   facts-age        the age that it gives a fact is that of the history
 --   facts-same       it stands for the same where only more facts are known
 --   facts-empty      a set without rows stands for the history without transactions
 --   facts-push       one with a transaction put into its rows stands for the history with the transaction at its end
-use Rattle.std.proofs.Common.{◌≡◌, ℕ, Bool, true, false, ◌&&◌, ◌||◌, List, [], ◌∷◌, ◌++◌, refl, sym, ◌∙◌, ap, subst, arith, Option, inl, inr}
+use Rattle.std.proofs.Common.{◌≡◌, ℕ, Bool, true, false, ◌&&◌, ◌||◌, List, [], ◌∷◌, ◌++◌, map, refl, sym, ◌∙◌, ap, subst, arith, Option, inl, inr}
 use Rattle.std.specs.Prelude.{slice_index_or}
 use Rattle.std.proofs.lemmas.Bool.{and_parts, and_from, or_left, or_right}
 use Rattle.ipa_spec.specs.declared.specification.Specification.{Specification}
@@ -22,6 +23,7 @@ use Rattle.ipa_history.specs.NextLaws.{IsMore-push}
 use Rattle.ipa_history.specs.Values.{adds_fact, removes_fact, value_of}
 use Rattle.ipa_history.specs.declared.history.Tx.{Tx}
 use Rattle.ipa_sets.specs.FactSets.{lasts_on, truth_of, true_facts, IsFactsOf}
+use Rattle.ipa_sets.specs.Fitting.{truth_in}
 use Rattle.ipa_sets.specs.Keys.{has_key}
 use Rattle.ipa_sets.specs.LastLaws.{value-lasts, age-lasts}
 use Rattle.ipa_sets.specs.Lasts.{tx_at, IsRowOf, AreLastsOf, value_by_lasts, age_by_lasts}
@@ -30,6 +32,11 @@ use Rattle.ipa_sets.specs.RowLaws.{lasts-rows, row-push, row-empty}
 use Rattle.ipa_sets.specs.Rows.{no_row, row_in, lasts_in, put_in}
 use Rattle.ipa_sets.specs.declared.facts.Facts.{Facts}
 use Rattle.ipa_sets.specs.declared.keys.Key.{Key}
+
+-- the truths that are kept are those by the rows
+pub told-of : (facts : Facts) → facts.known.truths.items ≡ map (truth_of facts) facts.known.facts.items
+unfolding truth_of
+told-of facts = facts.told
 
 module _ (s : Specification) (start : List Fact) (taken : List Tx) (facts : Facts)
     (is : IsFactsOf s start taken facts) where
@@ -40,7 +47,7 @@ module _ (s : Specification) (start : List Fact) (taken : List Tx) (facts : Fact
 
   -- the value that the set gives a fact is that of the history
   pub truth-value : (f : Fact) → truth_of facts f ≡ value_of s start taken f
-  unfolding truth_of
+  unfolding truth_of truth_in lasts_on
   truth-value f = ap (λ (w : Bool). value_by_lasts w (has facts.base f) (lasts_on facts f)) (is.rules f.predicate)
       ∙ (ap (λ (b : List Fact). value_by_lasts (has_rule is_add_wins s f.predicate) (has b f) (lasts_on facts f))
       is.base

@@ -8,8 +8,7 @@
 --   IsReadyFor s t facts  it knows each fact that the transaction adds, and has a row for each key of its effects
 --
 -- That its true facts and their ages are those of the history is shown in FactSetLaws.
-use Rattle.std.specs.Prelude.{◌≡◌, ℕ, ◌*◌, ◌+◌, ◌≤◌, Bool, true, false, List, Option, slice_index_or}
-use Rattle.std.specs.Vec.{vec_len, vec_capacity}
+use Rattle.std.specs.Prelude.{◌≡◌, ℕ, ◌*◌, ◌≤◌, Bool, true, false, List, Option, slice_index_or}
 use Rattle.ipa_spec.specs.declared.specification.Specification.{Specification}
 use Rattle.ipa_logic.specs.Facts.{has, IsRising}
 use Rattle.ipa_logic.specs.Touches.{has_rule, is_add_wins}
@@ -17,8 +16,10 @@ use Rattle.ipa_logic.specs.declared.facts.Fact.{Fact}
 use Rattle.ipa_history.specs.Histories.{IsMember, IsHistory}
 use Rattle.ipa_history.specs.Values.{adds_fact}
 use Rattle.ipa_history.specs.declared.history.Tx.{Tx}
+use Rattle.ipa_sets.specs.Fitting.{truth_in}
 use Rattle.ipa_sets.specs.Keys.{has_key}
-use Rattle.ipa_sets.specs.Lasts.{IsRowOf, value_by_lasts}
+use Rattle.ipa_sets.specs.Knowns.{HasPlaces}
+use Rattle.ipa_sets.specs.Lasts.{IsRowOf}
 use Rattle.ipa_sets.specs.Listings.{listed}
 use Rattle.ipa_sets.specs.Rows.{spare, has_row, row_in, lasts_in}
 use Rattle.ipa_sets.specs.declared.facts.Facts.{Facts}
@@ -31,8 +32,7 @@ lasts_on facts f = lasts_in facts.rows f
 
 -- the value that they give it
 unfoldable pub truth_of : Facts → Fact → Bool
-truth_of facts f =
-    value_by_lasts (slice_index_or facts.adds_win f.predicate false) (has facts.base f) (lasts_on facts f)
+truth_of facts f = truth_in facts.adds_win facts.base facts.rows f
 
 -- the facts with the value true, in order
 abbrev pub true_facts : Facts → List Fact
@@ -50,7 +50,7 @@ pub record IsFactsOf (s : Specification) (start : List Fact) (taken : List Tx) (
 
 -- there is room for n more transactions: each has at most 12 effects, and for each of them a row is made, and filled
 pub record HasRoom (n : ℕ) (facts : Facts) : Type 0 where
-  pub known : vec_len facts.known.facts + 12 * n ≤ vec_capacity facts.known.facts
+  pub known : HasPlaces (12 * n) facts.known
   pub rows : 24 * n ≤ spare facts.rows
 
 -- it knows each fact that the transaction adds, and has a row for each key of its effects

@@ -21,6 +21,8 @@ pub mod NumberLists
 pub mod NumberLaws
 pub mod Numbers
 pub mod Places
+pub mod Fitting
+pub mod Knowns
 pub mod OriginLaws
 pub mod MaximalLaws
 pub mod FrontLaws

@@ -1,17 +1,19 @@
 //! The set of facts of one history, kept up to date.
-ghost use Rattle.std.specs.Prelude.{◌≡◌, ◌+◌, ◌*◌, ◌≤◌, ◌<◌, ◌++◌, ◌∷◌, ◌||◌, [], ℕ, List, IsOk, OnOk, OnErr, IfOk, true, false, slice_index_or};
-ghost use Rattle.ipa_logic.specs.Facts.{has, IsRising};
+ghost use Rattle.std.specs.Prelude.{◌≡◌, ◌+◌, ◌*◌, ◌≤◌, ◌<◌, ◌++◌, ◌∷◌, [], ℕ, List, map, IsOk, OnOk, OnErr, IfOk, true, false, slice_index_or};
+ghost use Rattle.ipa_logic.specs.Facts.{fact_cmp, has, IsRising};
 ghost use Rattle.ipa_logic.specs.Touches.{has_rule, is_add_wins};
 ghost use Rattle.ipa_logic.specs.declared.facts.Fact.{Fact as TheFact};
 ghost use Rattle.ipa_history.specs.Histories.{IsHistory};
 ghost use Rattle.ipa_history.specs.declared.history.Tx.{Tx as TheTx};
 ghost use Rattle.ipa_spec.specs.declared.specification.Specification.{Specification};
-ghost use Rattle.ipa_sets.specs.FactSets.{lasts_on, truth_of, true_facts, IsFactsOf, HasRoom, IsReadyFor};
+ghost use Rattle.ipa_sets.specs.Fitting.{truth_in};
 ghost use Rattle.ipa_sets.specs.Lasts.{age_by_lasts};
+ghost use Rattle.std.proofs.lemmas.Map.Keys.{IsStrictlySortedBy-prop};
 ghost use Rattle.ipa_sets.specs.Rows.{spare};
 
+use crate::judge::Judge;
 use crate::known::Known;
-use crate::lasts::{Last, age_by_lasts, value_by_lasts};
+use crate::lasts::{Last, age_by_lasts};
 use crate::listing::{Test, insert_passing, next_listed};
 use crate::rows::Rows;
 use ipa_bounds::AgedView;
@@ -30,13 +32,17 @@ pub struct Facts {
     base: State,
     // For each predicate whether an add prevails over a concurrent remove.
     adds_win: [bool; 256],
-    // The facts that some transaction adds, and maybe others.
+    // The facts that some transaction adds, and maybe others, and whether they are true.
     known: Known,
     // For each key of an effect and each origin the last transaction that has it.
     rows: Rows,
+    ghost rising: { IsRising base } by { IsStrictlySortedBy-prop fact_cmp base },
+    ghost told: { known.truths.items ≡ map (truth_in adds_win base rows) known.facts.items },
 }
 
 impl Facts {
+    ghost use Rattle.ipa_sets.specs.FactSets.{lasts_on, truth_of, true_facts, IsFactsOf, HasRoom, IsReadyFor};
+
     /// The set of the history without transactions over the base. It takes no memory, and grows in that of `alloc`.
     pub fn new(alloc: Global, spec: &Spec, base: State) -> Facts
         ensures { IsFactsOf spec.now base [] result }
@@ -75,7 +81,12 @@ impl Facts {
         ensures room { (n : ℕ) → HasRoom (n + 1) self.old → IsOk result × HasRoom n self.new }
         ensures spare { spare self.old.rows ≤ spare self.new.rows + 12 }
     {
-        self.known.insert_added(spec, tx)?;
+        let judge = Judge {
+            adds_win: &self.adds_win,
+            base: &self.base,
+            rows: &self.rows,
+        };
+        self.known.insert_added(spec, tx, &judge)?;
         self.rows.make_rows(spec, tx)?;
         Ok(())
     }
@@ -96,6 +107,12 @@ impl Facts {
             return Ok(());
         }
         self.rows.put_effects(spec, tx)?;
+        let judge = Judge {
+            adds_win: &self.adds_win,
+            base: &self.base,
+            rows: &self.rows,
+        };
+        self.known.tell_concerned(spec, tx, &judge);
         Ok(())
     }
 
@@ -110,16 +127,16 @@ impl Facts {
         Ok(state)
     }
 
-    // Whether the fact is in the base, or known.
-    fn can_hold(&self, fact: &Fact) -> bool
-        ensures value { result ≡ (has self.now.base fact.now || has self.now.known.facts.items fact.now) }
-        ensures base { IsRising self.now.base }
-        ensures known { IsRising self.now.known.facts.items }
+    // Whether the fact is true by its rows.
+    fn is_true_by_rows(&self, fact: &Fact) -> bool
+        ensures { result ≡ truth_of self.now fact.now }
     {
-        if self.base.holds(fact) {
-            return true;
-        }
-        self.known.holds(fact)
+        let judge = Judge {
+            adds_win: &self.adds_win,
+            base: &self.base,
+            rows: &self.rows,
+        };
+        judge.passes(fact)
     }
 
     // The last effect of each origin on the fact.
@@ -160,25 +177,27 @@ fn is_add_wins(spec: &Spec, predicate: usize) -> bool
 }
 
 impl Test for Facts {
+    ghost use Rattle.ipa_sets.specs.FactSets.{truth_of};
+
     ghost passes = { truth_of };
 
     fn passes(&self, fact: &Fact) -> bool {
-        value_by_lasts(
-            self.adds_win[usize::from(fact.predicate)],
-            self.base.holds(fact),
-            &self.lasts_on(fact),
-        )
+        match self.known.truth(fact) {
+            Some(truth) => truth,
+            None => self.is_true_by_rows(fact),
+        }
     }
 }
 
 impl View for Facts {
+    ghost use Rattle.ipa_sets.specs.FactSets.{true_facts};
+
     ghost facts = { true_facts };
 
     fn holds(&self, fact: &Fact) -> bool {
-        if self.can_hold(fact) {
-            self.passes(fact)
-        } else {
-            false
+        match self.known.truth(fact) {
+            Some(truth) => truth,
+            None => self.base.holds(fact) && self.is_true_by_rows(fact),
         }
     }
 
@@ -188,6 +207,8 @@ impl View for Facts {
 }
 
 impl AgedView for Facts {
+    ghost use Rattle.ipa_sets.specs.FactSets.{lasts_on};
+
     ghost ages = { λ v f. age_by_lasts (lasts_on v f) };
 
     fn age(&self, fact: &Fact) -> Age {
