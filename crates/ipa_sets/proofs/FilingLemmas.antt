@@ -1,17 +1,17 @@
 -- Lemmas for numbers that are filed under keys.
 use Rattle.std.proofs.Common.{◌≡◌, ℕ, Bool, true, false, cond, List, [], Option, Some, None, Result, Ok, Err, refl, sym, ◌∙◌, ap, subst, ◌⊎◌, inl, inr}
-use Rattle.std.specs.Prelude.{◌==◌, IsOk, IsSome, OnOk}
+use Rattle.std.specs.Prelude.{◌==◌, IsOk, is_some, OnOk}
 use Rattle.std.specs.Option.{option_map_or}
 use Rattle.std.specs.Ordering.{is_eq}
 use Rattle.std.specs.BTreeMap.{BTreeMap, get}
 use Rattle.std.proofs.lemmas.Bool.{cases_Bool, false≢true, eqb-true}
 use Rattle.ipa_history.specs.Histories.{IsMember}
 use Rattle.ipa_sets.specs.ByOrigins.{numbers_at, is_ready_at}
-use Rattle.ipa_sets.specs.Filings.{AreMet, IsWithKey, filed_in, is_room_in, HasRoomFor, IsRoomier, IsThis, IsFiledAt}
+use Rattle.ipa_sets.specs.Filings.{is_known, IsWithKey, filed_in, is_room_in, HasRoomFor, IsRoomier, IsThis, IsFiledAt}
 use Rattle.ipa_sets.specs.Keys.{key_cmp}
 use Rattle.ipa_sets.specs.KeyLaws.{key_cmp-same, key_cmp-itself}
 use Rattle.ipa_sets.specs.Numbers.{IsWith}
-use Rattle.ipa_sets.specs.Shapes.{has_shape}
+use Rattle.ipa_sets.specs.Shapes.{has_shape, AreMet}
 use Rattle.ipa_sets.specs.declared.by_origin.ByOrigin.{ByOrigin}
 use Rattle.ipa_sets.specs.declared.keys.Key.{Key}
 use Rattle.ipa_sets.specs.declared.patterns.Pattern.{Pattern}
@@ -139,22 +139,23 @@ pub put_key : (old new : BTreeMap Key ByOrigin) (key : Key) (lists : ByOrigin) �
     IsWithKey old new key
 put_key old new key lists put k known = elim (cases_Bool (is_eq (key_cmp key k))) [
   | inl same ↦ inr (sym (key_cmp-same key k same))
-  | inr apart ↦ inl (subst (λ (x : Option ByOrigin). IsSome x) (put_other old new key lists put k apart) known)
+  | inr apart ↦ inl (subst (λ (x : Option ByOrigin). is_some x ≡ true) (put_other old new key lists put k apart) known)
 ]
 
 -- where the key was known, none becomes known
 pub put_known : (old new : BTreeMap Key ByOrigin) (key : Key) (was lists : ByOrigin) → IsPut old new key lists →
-    get key_cmp old key ≡ Some was → (k : Key) → IsSome (get key_cmp new k) → IsSome (get key_cmp old k)
+    get key_cmp old key ≡ Some was → (k : Key) → is_known new k ≡ true → is_known old k ≡ true
 put_known old new key was lists put had k known = elim (put_key old new key lists put k known) [
   | inl before ↦ before
-  | inr same ↦ subst (λ (q : Key). IsSome (get key_cmp old q)) (sym same)
-      (subst (λ (x : Option ByOrigin). IsSome x) (sym had) refl)
+  | inr same ↦ subst (λ (q : Key). is_known old q ≡ true) (sym same)
+      (subst (λ (x : Option ByOrigin). is_some x ≡ true) (sym had) refl)
 ]
 
 -- the shapes stay those of the keys, where none has become known but one that has its shape
-pub met_with : (old new : BTreeMap Key ByOrigin) (key : Key) (was now : Shapes) → AreMet old was → IsWithKey old new key →
+pub met_with : (old new : BTreeMap Key ByOrigin) (key : Key) (was now : Shapes) → AreMet (is_known old) was →
+    IsWithKey old new key →
     (key.adds ≡ false → has_shape now key.pattern ≡ true)
-    → ((p : Pattern) → has_shape was p ≡ true → has_shape now p ≡ true) → AreMet new now
+    → ((p : Pattern) → has_shape was p ≡ true → has_shape now p ≡ true) → AreMet (is_known new) now
 met_with old new key was now met with here kept k known removes = elim (with k known) [
   | inl before ↦ kept k.pattern (met k before removes)
   | inr same ↦ subst (λ (q : Key). q.adds ≡ false → has_shape now q.pattern ≡ true) (sym same) here removes

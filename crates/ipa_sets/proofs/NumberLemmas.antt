@@ -89,7 +89,7 @@ last_greatest bound xs last sorted at low =
     let here : get_or xs (length xs - 1) 0 ≡ last = get_or_from_slice_get xs (length xs - 1) last 0 at in
     sym at ∙ last_passed bound xs (length xs) (omega (arith, some)) (omega arith) sorted
     (λ k d l.
-        let k_is : get_or xs k d ≡ get_or xs k 0 = get_or_default xs k d 0 l in
-        let most = sorted k (length xs - 1) 0 (omega arith) (omega (arith, some)) in
-        omega (arith, k_is, most, here, low))
+    let k_is : get_or xs k d ≡ get_or xs k 0 = get_or_default xs k d 0 l in
+    let most = sorted k (length xs - 1) 0 (omega arith) (omega (arith, some)) in
+    omega (arith, k_is, most, here, low))
     (λ k d a l. absurd (omega (arith, a, l)))

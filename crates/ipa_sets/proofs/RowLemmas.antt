@@ -19,8 +19,8 @@ use Rattle.ipa_sets.specs.KeyLaws.{key_eq-same, key_eq-itself, key_cmp-eq}
 use Rattle.ipa_sets.specs.Keys.{key_cmp, key_eq, key_of}
 use Rattle.ipa_sets.specs.Lasts.{tx_at, last_of}
 use Rattle.ipa_sets.specs.RowLaws.{origin-at}
-use Rattle.ipa_sets.specs.Shapes.{has_shape}
-use Rattle.ipa_sets.specs.Rows.{RowTable, AreMet, row_at, no_row, has_row, row_in, later, later_row, last_of_keys, last_from, lasts_of_rows, later_last, raised, put_in}
+use Rattle.ipa_sets.specs.Shapes.{has_shape, AreMet}
+use Rattle.ipa_sets.specs.Rows.{RowTable, row_at, no_row, has_row, row_in, later, later_row, last_of_keys, last_from, lasts_of_rows, later_last, raised, put_in}
 use Rattle.ipa_sets.specs.declared.keys.Key.{Key}
 use Rattle.ipa_sets.specs.declared.lasts.Last.{Last}
 use Rattle.ipa_sets.specs.declared.patterns.Pattern.{Pattern}
@@ -96,8 +96,8 @@ module _ (old new : RowTable) (key : Key) (row : List (Option Tx))
       by_key false e = refl
 
   -- and the shapes that have the key's have each
-  pub put-met : (shapes more : Shapes) → AreMet old shapes → (key.adds ≡ false → has_shape more key.pattern ≡ true) →
-      ((p : Pattern) → has_shape shapes p ≡ true → has_shape more p ≡ true) → AreMet new more
+  pub put-met : (shapes more : Shapes) → AreMet (has_row old) shapes → (key.adds ≡ false → has_shape more key.pattern ≡ true) →
+      ((p : Pattern) → has_shape shapes p ≡ true → has_shape more p ≡ true) → AreMet (has_row new) more
   put-met shapes more met here kept k there removes = by_key (key_eq key k) refl
     where
       by_key : (b : Bool) → key_eq key k ≡ b → has_shape more k.pattern ≡ true

@@ -1,6 +1,6 @@
 -- Numbers filed under keys, for each origin.
 --
---   AreMet m shapes          each key of a remove has one of the shapes
+--   is_known m k             a key is known
 --   IsWithKey old new k      no other key has become known than this one
 --   filed_in m k o           the numbers of the origin that are filed under the key
 --   is_room_in m k o         there is room for one more of them
@@ -10,7 +10,7 @@
 --   IsFiledAt k o n old new  the number of the origin is filed under the key too, and no other room is lost
 --   IsReadied, AreReadied    there is room under the key of an effect, or of the first ones, and its fact is known
 --   Files s t old new        the new numbers are the old ones and the transaction's, under each of its keys
-use Rattle.std.specs.Prelude.{◌≡◌, ℕ, ◌<◌, Bool, true, false, List, [], slice_get, Some, IsSome, ◌⊎◌}
+use Rattle.std.specs.Prelude.{◌≡◌, ℕ, ◌<◌, Bool, true, false, List, [], slice_get, Some, is_some, ◌⊎◌}
 use Rattle.std.specs.Option.{option_map_or}
 use Rattle.std.specs.BTreeMap.{BTreeMap, get}
 use Rattle.ipa_spec.specs.Actions.{effects_of}
@@ -24,18 +24,16 @@ use Rattle.ipa_history.specs.declared.history.Tx.{Tx}
 use Rattle.ipa_sets.specs.ByOrigins.{numbers_at, is_ready_at}
 use Rattle.ipa_sets.specs.Keys.{key_cmp, key_of, has_key}
 use Rattle.ipa_sets.specs.Numbers.{AreUpTo}
-use Rattle.ipa_sets.specs.Shapes.{has_shape}
 use Rattle.ipa_sets.specs.declared.by_origin.ByOrigin.{ByOrigin}
 use Rattle.ipa_sets.specs.declared.keys.Key.{Key}
-use Rattle.ipa_sets.specs.declared.shapes.Shapes.{Shapes}
 
--- each key of a remove that is known has one of the shapes
-abbrev pub AreMet : BTreeMap Key ByOrigin → Shapes → Type 0
-AreMet m shapes = (k : Key) → IsSome (get key_cmp m k) → k.adds ≡ false → has_shape shapes k.pattern ≡ true
+-- a key is known
+abbrev pub is_known : BTreeMap Key ByOrigin → Key → Bool
+is_known m k = is_some (get key_cmp m k)
 
 -- no other key has become known than this one
 abbrev pub IsWithKey : BTreeMap Key ByOrigin → BTreeMap Key ByOrigin → Key → Type 0
-IsWithKey old new key = (k : Key) → IsSome (get key_cmp new k) → IsSome (get key_cmp old k) ⊎ (k ≡ key)
+IsWithKey old new key = (k : Key) → is_known new k ≡ true → (is_known old k ≡ true) ⊎ (k ≡ key)
 
 -- the numbers of the origin that are filed under the key
 abbrev pub filed_in : BTreeMap Key ByOrigin → Key → ℕ → List ℕ

@@ -1,5 +1,6 @@
 pub mod Keys
 pub mod Shapes
+pub mod ShapeLaws
 pub mod KeyLaws
 pub mod Lasts
 pub mod LastLaws
@@ -12,7 +13,6 @@ pub mod WholeCutLaws
 pub mod AtCuts
 pub mod ByOrigins
 pub mod Filings
-pub mod FilingLaws
 pub mod Indexes
 pub mod IndexLaws
 pub mod LastAtLaws

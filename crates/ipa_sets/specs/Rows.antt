@@ -8,7 +8,6 @@
 --   row_at table k           the row that a table of them has for the key, if any
 --   has_row table k          a table of rows has one for the key
 --   row_in table k           the row of a key in a table of them
---   AreMet table shapes      the shapes have that of each remove with a row
 --   later x y                the one of greater number, of two of one origin
 --   later_row one other      for each origin the later one of two rows
 --   last_of_keys table ks    for each origin the last transaction in the rows of some keys
@@ -20,7 +19,7 @@
 --   later_last m r           the one of greater number, of a last effect and a remove of one origin
 --   raised lasts row         for each origin the later one of them
 --   put_in                   a transaction put into a row
-use Rattle.std.specs.Prelude.{◌≡◌, ℕ, Bool, true, false, ◌==◌, ◌&&◌, nat_lt, List, map, replicate, Option, Some, None, is_some, unwrap_or, if◌then◌else◌}
+use Rattle.std.specs.Prelude.{ℕ, Bool, true, false, ◌==◌, ◌&&◌, nat_lt, List, map, replicate, Option, Some, None, is_some, unwrap_or, if◌then◌else◌}
 use Rattle.std.specs.List.{fold, range_with_len}
 use Rattle.std.specs.HashMap.{HashMap, spare as left_in}
 use Rattle.std_collections.specs.Map.{lookup}
@@ -28,10 +27,8 @@ use Rattle.ipa_logic.specs.declared.facts.Fact.{Fact}
 use Rattle.ipa_history.specs.declared.history.Tx.{Tx}
 use Rattle.ipa_sets.specs.Keys.{key_eq, add_key, remove_keys}
 use Rattle.ipa_sets.specs.Lasts.{tx_at, last_of}
-use Rattle.ipa_sets.specs.Shapes.{has_shape}
 use Rattle.ipa_sets.specs.declared.keys.Key.{Key}
 use Rattle.ipa_sets.specs.declared.lasts.Last.{Last}
-use Rattle.ipa_sets.specs.declared.shapes.Shapes.{Shapes}
 
 -- what f gives for each origin
 abbrev pub by_origin : {X : Type 0} → (ℕ → X) → List X
@@ -65,10 +62,6 @@ has_row table k = is_some (row_at table k)
 -- the row of a key in a table of them
 abbrev pub row_in : RowTable → Key → List (Option Tx)
 row_in table k = unwrap_or (row_at table k) no_row
-
--- the shapes have that of each remove with a row
-abbrev pub AreMet : RowTable → Shapes → Type 0
-AreMet table shapes = (k : Key) → has_row table k ≡ true → k.adds ≡ false → has_shape shapes k.pattern ≡ true
 
 -- the one of greater number, of two of one origin
 abbrev pub later : Option Tx → Option Tx → Option Tx

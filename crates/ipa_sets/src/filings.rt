@@ -2,13 +2,12 @@
 ghost use Rattle.std.specs.Prelude.{◌≡◌, ◌<◌, ℕ, true, false, None, slice_index_or, IfOk, OnOk, IsSome};
 ghost use Rattle.std.specs.BTreeMap.{get};
 ghost use Rattle.ipa_clock.specs.Cut.{count_of};
-ghost use Rattle.ipa_sets.specs.FilingLaws.{AreMet-prop};
-ghost use Rattle.ipa_sets.specs.Filings.{AreMet, IsWithKey, filed_in, is_room_in, HasRoomFor, IsRoomier, IsFiledAt};
+ghost use Rattle.ipa_sets.specs.ShapeLaws.{AreMet-prop};
+ghost use Rattle.ipa_sets.specs.Filings.{is_known, IsWithKey, filed_in, is_room_in, HasRoomFor, IsRoomier, IsFiledAt};
 ghost use Rattle.ipa_sets.specs.Keys.{key_cmp};
 ghost use Rattle.ipa_sets.specs.Numbers.{greater, greatest_upto, AreUpTo};
-ghost use Rattle.ipa_sets.specs.Shapes.{has_shape};
+ghost use Rattle.ipa_sets.specs.Shapes.{AreMet};
 ghost use Rattle.ipa_sets.specs.declared.keys.Key.{Key as TheKey};
-ghost use Rattle.ipa_sets.specs.declared.patterns.Pattern.{Pattern as ThePattern};
 
 use crate::by_origin::ByOrigin;
 use crate::keys::Key;
@@ -23,7 +22,7 @@ pub struct Filed {
     lists: BTreeMap<Key, ByOrigin>,
     // The shapes of the removes that are known, so that most keys need not be looked up.
     removes: Shapes,
-    ghost met: { AreMet lists removes } by { AreMet-prop lists removes },
+    ghost met: { AreMet (is_known lists) removes } by { AreMet-prop (is_known lists) removes },
 }
 
 impl Filed {
@@ -43,7 +42,7 @@ impl Filed {
         ensures { (o : ℕ) → o < 16 → slice_index_or found.new o None
             ≡ greater (slice_index_or found.old o None) (greatest_upto (count_of cut.now o) (filed_in self.now.lists key.now o)) }
     {
-        if key.adds || self.removes.has(&key.pattern) {
+        if self.removes.may_have(key) {
             if let Some(lists) = self.lists.get(key) {
                 lists.raise(cut, found);
             }
@@ -56,7 +55,7 @@ impl Filed {
         ensures roomier { IsRoomier self.old.lists self.new.lists }
         ensures room { OnOk result (is_room_in self.new.lists key origin ≡ true) }
     {
-        meet(&mut self.removes, &key);
+        self.removes.meet(&key);
         make_room(&mut self.lists, alloc, key, origin)
     }
 
@@ -68,16 +67,6 @@ impl Filed {
         ensures { IsFiledAt key.now origin number self.old.lists self.new.lists }
     {
         file(&mut self.lists, key, origin, number);
-    }
-}
-
-// Adds the shape of the key, if it is that of a remove.
-fn meet(removes: &mut Shapes, key: &Key)
-    ensures here { key.now.adds ≡ false → has_shape removes.new key.now.pattern ≡ true }
-    ensures kept { (p : ThePattern) → has_shape removes.old p ≡ true → has_shape removes.new p ≡ true }
-{
-    if !key.adds {
-        removes.add(&key.pattern);
     }
 }
 
@@ -143,7 +132,7 @@ fn file(lists: &mut BTreeMap<Key, ByOrigin>, key: &Key, origin: u8, number: u32)
     requires rising { AreUpTo (filed_in lists.old key.now origin) number }
     requires room { HasRoomFor lists.old key.now origin number }
     ensures filed { IsFiledAt key.now origin number lists.old lists.new }
-    ensures keys { (k : TheKey) → IsSome (get key_cmp lists.new k) → IsSome (get key_cmp lists.old k) }
+    ensures keys { (k : TheKey) → is_known lists.new k ≡ true → is_known lists.old k ≡ true }
 {
     if let Some(numbers) = lists.get_mut(key) {
         let _ = numbers.append(origin, number);

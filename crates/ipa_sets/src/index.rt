@@ -14,8 +14,8 @@ ghost use Rattle.ipa_sets.specs.Indexes.{IsIndexOf, IsReadyFor, IsWidened};
 
 use crate::at_cut::AtCut;
 use crate::by_origin::ByOrigin;
-use crate::filings::Filed;
 use crate::facts::{adds_win, stands_in_order};
+use crate::filings::Filed;
 use crate::taking::{file_effects, ready_effects};
 use ipa_clock::{Cut, Dot};
 use ipa_history::{History, Tx};

@@ -6,9 +6,7 @@ ghost use Rattle.ipa_spec.specs.Actions.{effects_of};
 ghost use Rattle.ipa_sets.specs.Keys.{key_cmp, key_eq, key_of, add_key, has_key};
 ghost use Rattle.ipa_sets.specs.Lasts.{tx_at};
 ghost use Rattle.ipa_sets.specs.Rows.{no_row, spare, row_at, has_row, row_in, last_from, lasts_of_rows, lasts_in, later_last, raised, put_in};
-ghost use Rattle.ipa_sets.specs.Shapes.{has_shape};
 ghost use Rattle.ipa_sets.specs.declared.keys.Key.{Key as TheKey};
-ghost use Rattle.ipa_sets.specs.declared.patterns.Pattern.{Pattern as ThePattern};
 
 use crate::keys::{Key, add_key, key_of, remove_keys};
 use crate::lasts::Last;
@@ -31,13 +29,14 @@ pub struct Rows {
 }
 
 impl Model for Rows {
-    ghost use Rattle.ipa_sets.specs.Rows.{RowTable, row_table, AreMet};
+    ghost use Rattle.ipa_sets.specs.Rows.{RowTable, row_table, has_row};
+    ghost use Rattle.ipa_sets.specs.Shapes.{AreMet};
 
     ghost Value = { RowTable };
 
     ghost view = { λ a. row_table a.table };
 
-    ghost invariant = { λ a. AreMet (row_table a.table) a.shapes };
+    ghost invariant = { λ a. AreMet (has_row (row_table a.table)) a.shapes };
 }
 
 impl Rows {
@@ -66,7 +65,7 @@ impl Rows {
     fn get(&self, key: &Key) -> Option<&[Option<Tx>; 16]>
         ensures { option_copied result ≡ row_at self.now key.now }
     {
-        if key.adds || self.shapes.has(&key.pattern) {
+        if self.shapes.may_have(key) {
             self.table.get(key)
         } else {
             None
@@ -99,7 +98,7 @@ impl Rows {
         ensures room { 0 < spare self.old → IsOk result }
         ensures spare { spare self.old ≤ spare self.new + 1 }
     {
-        meet(&mut self.shapes, &key);
+        self.shapes.meet(&key);
         self.table.insert(key, row)?;
         Ok(())
     }
@@ -239,16 +238,6 @@ impl Rows {
         if let Some(row) = self.get(key) {
             *lasts = raised(lasts, row);
         }
-    }
-}
-
-// Adds the shape of the key's pattern, if it is that of a remove.
-fn meet(shapes: &mut Shapes, key: &Key)
-    ensures here { key.now.adds ≡ false → has_shape shapes.new key.now.pattern ≡ true }
-    ensures kept { (p : ThePattern) → has_shape shapes.old p ≡ true → has_shape shapes.new p ≡ true }
-{
-    if !key.adds {
-        shapes.add(&key.pattern);
     }
 }
 

@@ -1,15 +1,16 @@
-//! Which shapes of patterns there are: a shape is a predicate, and the places that have an element.
-ghost use Rattle.std.specs.Prelude.{◌≡◌, ◌<◌, ◌≤◌, ℕ, true, false, slice_index_or};
+//! Which shapes of removes there are: a shape is a predicate, and the places that have an element.
+ghost use Rattle.std.specs.Prelude.{◌≡◌, ◌<◌, ◌≤◌, ◌||◌, ℕ, true, false, slice_index_or};
 ghost use Rattle.std.specs.Option.{option_map_or};
 ghost use Rattle.ipa_sets.specs.Shapes.{weight, shape, has_shape};
 ghost use Rattle.ipa_sets.specs.declared.patterns.Pattern.{Pattern as ThePattern};
 
+use crate::keys::Key;
 use crate::patterns::Pattern;
 
-/// Shapes of patterns. Most are never met, and a look tells so.
+/// Shapes of the patterns of removes. Most are never met, and a look tells so.
 #[derive(Drop)]
 pub struct Shapes {
-    // For each predicate and each choice of places whether there is a pattern of this shape.
+    // For each predicate and each choice of places whether a remove of this shape was met.
     met: [bool; 2048],
 }
 
@@ -21,19 +22,21 @@ impl Shapes {
         Shapes { met: [false; 2048] }
     }
 
-    /// Adds the shape of the pattern.
-    pub fn add(&mut self, pattern: &Pattern)
-        ensures here { has_shape self.new pattern.now ≡ true }
+    /// Adds the shape of the key's pattern, if it is that of a remove.
+    pub fn meet(&mut self, key: &Key)
+        ensures here { key.now.adds ≡ false → has_shape self.new key.now.pattern ≡ true }
         ensures kept { (p : ThePattern) → has_shape self.old p ≡ true → has_shape self.new p ≡ true }
     {
-        self.met[shape_of(pattern)] = true;
+        if !key.adds {
+            self.met[shape_of(&key.pattern)] = true;
+        }
     }
 
-    /// Whether the shape of the pattern was added.
-    pub fn has(&self, pattern: &Pattern) -> bool
-        ensures { result ≡ has_shape self.now pattern.now }
+    /// Whether the key is that of an add, or of a remove whose shape was met.
+    pub fn may_have(&self, key: &Key) -> bool
+        ensures { result ≡ (key.now.adds || has_shape self.now key.now.pattern) }
     {
-        self.met[shape_of(pattern)]
+        key.adds || self.met[shape_of(&key.pattern)]
     }
 }
 

@@ -1,8 +1,7 @@
 use Rattle.std.proofs.Common.{rules, ◌∙◌, ◌≡◌, Some}
 use Rattle.std.specs.BTreeMap.{get}
-use Rattle.ipa_sets.specs.Filings.{IsRoomier}
 use Rattle.ipa_sets.specs.Keys.{key_cmp}
-use Rattle.ipa_sets.proofs.FilingLemmas.{put_here, put_key, put_roomier, some_filed, some_room}
+use Rattle.ipa_sets.proofs.FilingLemmas.{put_key, put_roomier, some_filed, some_room}
 use Rattle.ipa_sets.proofs.filings.widen.Goals as goal
 
 pub returns-in_err-reserve-in-Some-clause-roomier : goal.returns-in_err-reserve-in-Some-clause-roomier

@@ -1,4 +1,4 @@
-use Rattle.std.proofs.Common.{false, arith, inl, inr, get_or, replicate}
+use Rattle.std.proofs.Common.{false, arith, inl, inr, replicate}
 use Rattle.std.proofs.lemmas.Bool.{cases_lt}
 use Rattle.std.proofs.lemmas.List.{get_or-replicate, get_or_past, length-replicate}
 use Rattle.ipa_sets.specs.Shapes.{shape}
